@@ -1,0 +1,12 @@
+pub mod Standing
+pub mod Numbers
+pub mod Parts
+pub mod Code
+pub mod Types
+pub mod Plain
+pub mod Grammar
+pub mod Sections
+pub mod Modules
+pub mod Canon
+pub mod WellFormed
+pub mod Small
