@@ -27,6 +27,10 @@ SpellsCode (block kind inner rest) text = Then (Encloses 0x02 kind (SpellsCode i
 SpellsCode (repeat kind inner rest) text = Then (Encloses 0x03 kind (SpellsCode inner)) (SpellsCode rest) text
 SpellsCode (branch kind first second rest) text = Then (HasArms kind (SpellsCode first) (SpellsCode second)) (SpellsCode rest) text
 
+-- the byte ends a sequence: 0x0B, or 0x05 before the second arm of an if
+abbrev pub IsEnder : ℕ → Type 0
+IsEnder byte = (byte ≡ 0x0B) ⊎ (byte ≡ 0x05)
+
 -- an expression: a sequence and the end
 pub record SpellsExpr (code : Code) (text : List ℕ) : Type 0 where
   pub inner : List ℕ
