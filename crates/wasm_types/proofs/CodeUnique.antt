@@ -48,9 +48,9 @@ plain_opcode i a p =
     elim (cases_lt (opcode i) 2) [
       | inl low ↦ inl low
       | inr le ↦ elim (cases_lt (opcode i) 12) [
-          | inl lt ↦ absurd (no_text (immediates i) p.rest ((told i p.rest p.spelled).1 ∙ low_shape (opcode i) le lt) p.spelled)
-          | inr high ↦ inr high
-        ]
+        | inl lt ↦ absurd (no_text (immediates i) p.rest ((told i p.rest p.spelled).1 ∙ low_shape (opcode i) le lt) p.spelled)
+        | inr high ↦ inr high
+      ]
     ]
 
 pub plain_leads : (i : Instr) (a x : List ℕ) → SpellsPlain a i → (first (a ++ x) < 2) ⊎ (12 ≤ first (a ++ x))

@@ -117,10 +117,10 @@ signed_spells base (suc more) n some few lt =
     elim (cases_lt n (min 64 (128 * half_of base more))) [
       | inl small ↦ rw (lt-ltb n (min 64 (128 * half_of base more)) small) (inl (omega arith, omega arith, refl))
       | inr big ↦ rw (le-ltb n (min 64 (128 * half_of base more)) big) (elim (cases_lt (n + 64) (2 * (128 * half_of base more))) [
-          | inl goes ↦ rw (lt-ltb (n + 64) (2 * (128 * half_of base more)) goes) (
-              let back : 128 * half_of base more / 128 ≡ half_of base more = omega arith in
-              signed_more (128 * half_of base more) (n % 128 + 128) n (n / 128) (shortest_signed more (128 * half_of base more / 128) (n / 128)) (omega arith) (omega arith) (omega arith) (omega arith)
-              (rw back (signed_spells base more (n / 128) some few (omega arith))))
-          | inr ends ↦ rw (le-ltb (n + 64) (2 * (128 * half_of base more)) ends) (inr (omega arith, omega arith, omega arith, omega arith))
-        ])
+        | inl goes ↦ rw (lt-ltb (n + 64) (2 * (128 * half_of base more)) goes) (
+            let back : 128 * half_of base more / 128 ≡ half_of base more = omega arith in
+            signed_more (128 * half_of base more) (n % 128 + 128) n (n / 128) (shortest_signed more (128 * half_of base more / 128) (n / 128)) (omega arith) (omega arith) (omega arith) (omega arith)
+            (rw back (signed_spells base more (n / 128) some few (omega arith))))
+        | inr ends ↦ rw (le-ltb (n + 64) (2 * (128 * half_of base more)) ends) (inr (omega arith, omega arith, omega arith, omega arith))
+      ])
     ]

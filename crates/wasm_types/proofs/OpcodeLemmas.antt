@@ -261,6 +261,7 @@ one_plain a b x y i j p q e =
     let back : p.rest ++ x ≡ q.rest ++ y = cc in
     let f = told i p.rest p.spelled in
     let g = told j q.rest q.spelled in
-    let r = one_immediates (immediates i) (immediates j) p.rest q.rest x y (f.1 ∙ ap shape_of op ∙ sym g.1) p.spelled q.spelled back in
-    (p.parts ∙ ap (λ (c : ℕ). c ∷ p.rest) op ∙ ap (λ (t : List ℕ). opcode j ∷ t) r.0 ∙ sym q.parts,
-     sym f.0 ∙ ap (λ (c : ℕ). make c (immediates i)) op ∙ ap (make (opcode j)) r.1 ∙ g.0)
+    let r = one_immediates (immediates i) (immediates j) p.rest q.rest x y (f.1 ∙ ap shape_of op ∙ sym g.1) p.spelled q.spelled back in (
+      p.parts ∙ ap (λ (c : ℕ). c ∷ p.rest) op ∙ ap (λ (t : List ℕ). opcode j ∷ t) r.0 ∙ sym q.parts,
+      sym f.0 ∙ ap (λ (c : ℕ). make c (immediates i)) op ∙ ap (make (opcode j)) r.1 ∙ g.0,
+    )

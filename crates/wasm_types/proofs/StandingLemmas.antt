@@ -93,4 +93,3 @@ none_counted_second P bytes start mid count p none text rest xs here s =
 -- a list that is told by another number of items
 pub none_of_same : {A : Type 0} (P : List ℕ → A → Type 0) (bytes : List ℕ) (at j k : ℕ) → j ≡ k → NoneStands (EachOf P j) bytes at → NoneStands (EachOf P k) bytes at
 none_of_same P bytes at j k e none text rest v here s = none text rest v here (s.0, s.1 ∙ sym e)
-
