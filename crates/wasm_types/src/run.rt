@@ -1,0 +1,33 @@
+//! What a run is told by.
+
+use crate::module::Value;
+use sqlite_items::Items;
+
+/// Why a run traps.
+#[derive(Clone, Copy, Debug, PartialEq, Eq)]
+pub enum Reason {
+    Unreachable,
+    DivideByZero,
+    Overflow,
+    MemoryBounds,
+    NoEntry,
+    EmptyEntry,
+    WrongType,
+    ReplyMissing,
+    ReplyUnfit,
+}
+
+/// What happens at the watched position: it takes these operands, the deepest first, or leaves these values.
+#[derive(Drop)]
+pub enum Event {
+    Take(Items<Value>),
+    Leave(Items<Value>),
+}
+
+/// How a run ended, and after how many turns: calls, and branches back to a loop.
+#[derive(Clone, Copy, Debug, PartialEq, Eq)]
+pub enum Ended {
+    Returned { value: Option<Value>, turns: u32 },
+    Trapped { reason: Reason, turns: u32 },
+    OutOfTurns,
+}
