@@ -10,3 +10,6 @@ pub mod Modules
 pub mod Canon
 pub mod WellFormed
 pub mod Small
+pub mod Spaces
+pub mod Typing
+pub mod Validity
