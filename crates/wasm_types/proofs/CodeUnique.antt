@@ -1,5 +1,5 @@
 -- A text spells at most one sequence of instructions.
-use Rattle.std.proofs.Common.{◌≡◌, ◌==◌, ◌≢◌, ℕ, ◌⊎◌, ◌<◌, ◌≤◌, inl, inr, List, [], ◌∷◌, ◌++◌, Option, Some, None, refl, sym, ap, subst, ◌∙◌, append_assoc, arith}
+use Rattle.std.proofs.Common.{◌≡◌, ◌==◌, ℕ, ◌⊎◌, ◌<◌, ◌≤◌, inl, inr, List, [], ◌∷◌, ◌++◌, Option, Some, None, refl, sym, ap, subst, ◌∙◌, append_assoc, arith}
 use Rattle.std.specs.Prelude.{if◌then◌else◌}
 use Rattle.std.proofs.lemmas.Bool.{cases_lt}
 use Rattle.std.proofs.lemmas.Bool.Decides.{nat_tests}
@@ -9,9 +9,9 @@ use Rattle.wasm_types.specs.declared.instr.Instr.{Instr}
 use Rattle.wasm_types.specs.Code.{Code, done, one, block, repeat, branch, nest}
 use Rattle.wasm_types.specs.Parts.{Then}
 use Rattle.wasm_types.specs.Types.{kind_byte}
-use Rattle.wasm_types.specs.Plain.{Immediates, nothing, number, labels, signature, address, memory, signed_32, signed_64, raw_32, raw_64, never, opcode, immediates, SpellsImmediates, SpellsPlain}
+use Rattle.wasm_types.specs.Plain.{Immediates, never, opcode, immediates, SpellsImmediates, SpellsPlain}
 use Rattle.wasm_types.specs.Grammar.{Encloses, HasArms, IsEnder, SpellsCode}
-use Rattle.wasm_types.proofs.Once.{IsOnce, after, regroup}
+use Rattle.wasm_types.proofs.Once.{after, regroup}
 use Rattle.wasm_types.proofs.OpcodeLemmas.{shape, shape_of, told, one_plain}
 
 abbrev pub first : List ℕ → ℕ

@@ -1,12 +1,12 @@
 -- A text spells at most one module.
-use Rattle.std.proofs.Common.{◌≡◌, ◌≢◌, ℕ, ◌<◌, ◌⊎◌, inl, inr, List, [], ◌∷◌, ◌++◌, length, drop, take, Option, Some, None, refl, sym, ap, subst, ◌∙◌, arith, length-drop, length-append}
+use Rattle.std.proofs.Common.{◌≡◌, ℕ, ◌<◌, inl, inr, List, [], ◌∷◌, ◌++◌, length, drop, Option, Some, None, refl, sym, ap, subst, ◌∙◌, arith, length-drop}
 use Rattle.std.proofs.lemmas.List.{append-nil}
 use Rattle.wasm_types.specs.declared.module.Module.{Module}
 use Rattle.wasm_types.specs.declared.module.Name.{Name}
 use Rattle.wasm_types.specs.Standing.{Stands, NoneStands}
 use Rattle.wasm_types.specs.Numbers.{SpellsU32}
 use Rattle.wasm_types.specs.Parts.{Each}
-use Rattle.wasm_types.specs.Sections.{SpellsCustom, SpellsTypes, SpellsImports, SpellsFuncs, SpellsTables, SpellsMems, SpellsGlobals, SpellsExports, SpellsElems, SpellsBodies, SpellsSegments}
+use Rattle.wasm_types.specs.Sections.{SpellsTypes, SpellsImports, SpellsFuncs, SpellsTables, SpellsMems, SpellsGlobals, SpellsExports, SpellsElems, SpellsBodies, SpellsSegments}
 use Rattle.wasm_types.specs.Modules.{header, SpellsFrame, contents_of, ListIs, OptionIs, named_payload, later_of, NamesAre, Spells}
 use Rattle.wasm_types.proofs.Once.{IsOnce, after, once_u32, pair_is}
 use Rattle.wasm_types.proofs.SectionLemmas.{once_sized, whole_is, one_custom, once_types, once_imports, once_funcs, once_tables, once_mems, once_globals, once_exports, once_elems, once_bodies, once_segments}

@@ -1,5 +1,5 @@
 -- The table of opcodes, backwards: a text spells at most one plain instruction.
-use Rattle.std.proofs.Common.{◌≡◌, ◌==◌, ◌&&◌, ◌||◌, not, ℕ, ◌+◌, ◌-◌, ◌*◌, ◌<◌, ◌≤◌, ◌⊎◌, inl, inr, Bool, true, false, List, [], ◌∷◌, ◌++◌, refl, sym, ap, subst, ◌∙◌, arith}
+use Rattle.std.proofs.Common.{◌≡◌, ◌==◌, ◌||◌, ℕ, ◌⊎◌, inl, inr, Bool, true, false, List, [], ◌∷◌, ◌++◌, refl, sym, ap, subst, ◌∙◌, arith}
 use Rattle.std.specs.Prelude.{nat_lt, if◌then◌else◌}
 use Rattle.wasm_types.specs.declared.ops.Width.TheVariants.{W32, W64}
 use Rattle.wasm_types.specs.declared.ops.UnOp.TheVariants as un
@@ -18,9 +18,9 @@ use Rattle.wasm_types.specs.declared.instr.Instr.{Instr, Unreachable, Nop, Drop,
 use Rattle.std.proofs.lemmas.Bool.Decides.{nat_tests}
 use Rattle.wasm_types.specs.Numbers.{SpellsU32}
 use Rattle.wasm_types.proofs.NumberLemmas.{one_signed}
-use Rattle.wasm_types.specs.Parts.{Then, Behind, Both, Counted}
+use Rattle.wasm_types.specs.Parts.{Counted}
 use Rattle.wasm_types.proofs.Once.{IsOnce, once_u32, once_both, once_counted}
-use Rattle.wasm_types.specs.Plain.{SpellsRaw32, SpellsRaw64, Immediates, nothing, number, labels, signature, address, memory, signed_32, signed_64, raw_32, raw_64, never, within, is_number, is_address, float_plain, rel_place, un_place, bin_place, num_opcode, load_opcode, store_opcode, opcode, float_immediates, immediates, SpellsImmediates, SpellsPlain}
+use Rattle.wasm_types.specs.Plain.{SpellsRaw32, SpellsRaw64, Immediates, nothing, number, labels, signature, address, memory, signed_32, signed_64, raw_32, raw_64, never, within, is_number, is_address, float_plain, num_opcode, opcode, float_immediates, immediates, SpellsImmediates, SpellsPlain}
 
 -- ---- from an opcode and what follows it to the instruction
 

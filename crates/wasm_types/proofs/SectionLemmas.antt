@@ -1,5 +1,5 @@
 -- A text spells at most one of each part of a module, and none begins a text of another.
-use Rattle.std.proofs.Common.{◌≡◌, ◌==◌, ℕ, suc, ◌+◌, ◌<◌, ◌≤◌, inl, inr, Bool, true, false, List, [], ◌∷◌, ◌++◌, length, Option, Some, None, refl, sym, ap, subst, ◌∙◌, append_assoc, arith}
+use Rattle.std.proofs.Common.{◌≡◌, ◌==◌, ℕ, inl, Bool, true, false, List, [], ◌∷◌, ◌++◌, length, Option, Some, None, refl, sym, ap, ◌∙◌, append_assoc, arith}
 use Rattle.std.specs.Prelude.{if◌then◌else◌}
 use Rattle.wasm_types.specs.declared.module.ValType.{ValType}
 use Rattle.wasm_types.specs.declared.module.ValType.TheVariants as type
@@ -27,7 +27,7 @@ use Rattle.wasm_types.specs.Grammar.{SpellsInstrs}
 use Rattle.wasm_types.specs.Sections.{SpellsName, SpellsCustom, SpellsTypes, SpellsImportKind, SpellsImport, SpellsImports, SpellsFuncs, SpellsTables, SpellsMems, SpellsGlobal, SpellsGlobals, export_byte, SpellsExportKind, SpellsExport, SpellsExports, SpellsElem, SpellsElems, SpellsRun, SpellsBody, SpellsBodies, SpellsSegment, SpellsSegments}
 use Rattle.wasm_types.proofs.CodeLemmas.{code_of-injective}
 use Rattle.wasm_types.proofs.CodeUnique.{one_code}
-use Rattle.wasm_types.proofs.Once.{IsOnce, after, regroup, once_then, once_both, once_counted, once_u32, pair_is}
+use Rattle.wasm_types.proofs.Once.{IsOnce, after, once_then, once_both, once_counted, once_u32, pair_is}
 
 -- ---- ways to make one relation of another
 

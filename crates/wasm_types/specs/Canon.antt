@@ -1,6 +1,6 @@
 -- The canonical spelling (docs/FORMAT.md): every number in its shortest spelling, no empty section, no byte for else before an empty arm,
 -- the sections in rising order of id, and the payload of `name` last.
-use Rattle.std.specs.Prelude.{◌≡◌, ℕ, ◌*◌, ◌/◌, ◌%◌, List, [], ◌∷◌, ◌++◌, length, Option, Some, None, codes}
+use Rattle.std.specs.Prelude.{ℕ, ◌/◌, ◌%◌, List, [], ◌∷◌, ◌++◌, length, Option, Some, None, codes}
 use Rattle.wasm_types.specs.declared.module.ValType.{ValType}
 use Rattle.wasm_types.specs.declared.module.FuncType.{FuncType}
 use Rattle.wasm_types.specs.declared.module.Limits.{Limits}

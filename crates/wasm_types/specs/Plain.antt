@@ -1,5 +1,5 @@
 -- Instructions that hold no others: an opcode, and what follows it (WebAssembly Core Specification 1.0, section 5.4).
-use Rattle.std.specs.Prelude.{◌≡◌, ◌==◌, ◌&&◌, ◌||◌, not, nat_lt, ℕ, ◌+◌, ◌*◌, ◌<◌, ◌≤◌, Bool, if◌then◌else◌, List, [], ◌∷◌}
+use Rattle.std.specs.Prelude.{◌≡◌, ◌==◌, ◌&&◌, ◌||◌, not, nat_lt, ℕ, ◌+◌, ◌*◌, ◌<◌, Bool, if◌then◌else◌, List, [], ◌∷◌}
 use Rattle.wasm_types.specs.declared.ops.Width.TheVariants.{W32, W64}
 use Rattle.wasm_types.specs.declared.ops.UnOp.{UnOp}
 use Rattle.wasm_types.specs.declared.ops.UnOp.TheVariants as un
@@ -18,7 +18,7 @@ use Rattle.wasm_types.specs.declared.instr.FloatInstr.{FloatInstr}
 use Rattle.wasm_types.specs.declared.instr.FloatInstr.TheVariants as float
 use Rattle.wasm_types.specs.declared.instr.Instr.{Instr, Unreachable, Nop, Drop, Select, Return, Block', Loop', If', Br, BrIf, BrTable, Call, CallIndirect, LocalGet, LocalSet, LocalTee, GlobalGet, GlobalSet, Load, Store, MemorySize, MemoryGrow, I32Const, I64Const, Num, Float}
 use Rattle.wasm_types.specs.Numbers.{SpellsU32, SpellsS32, SpellsS64}
-use Rattle.wasm_types.specs.Parts.{Then, Behind, Both, Counted}
+use Rattle.wasm_types.specs.Parts.{Behind, Both, Counted}
 
 -- ---- opcodes
 

@@ -1,6 +1,5 @@
 -- The contents of sections (WebAssembly Core Specification 1.0, sections 5.5.3 to 5.5.14).
 use Rattle.std.specs.Prelude.{◌≡◌, ℕ, ◌<◌, ◌^◌, List, [], ◌∷◌, sum_by, IsUtf8}
-use Rattle.wasm_types.specs.declared.instr.Instr.{Instr}
 use Rattle.wasm_types.specs.declared.module.FuncType.{FuncType}
 use Rattle.wasm_types.specs.declared.module.Limits.{Limits}
 use Rattle.wasm_types.specs.declared.module.Name.{Name}

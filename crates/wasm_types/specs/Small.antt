@@ -1,5 +1,5 @@
 -- Small modules (docs/FORMAT.md): at most a type, a function and a code section, i32 alone, and four instructions without blocks.
-use Rattle.std.specs.Prelude.{◌≡◌, ℕ, ◌⊎◌, List, [], ◌∷◌, All}
+use Rattle.std.specs.Prelude.{◌≡◌, ℕ, ◌⊎◌, List, All}
 use Rattle.wasm_types.specs.declared.ops.NumOp.TheVariants.{Bin}
 use Rattle.wasm_types.specs.declared.ops.Width.TheVariants.{W32}
 use Rattle.wasm_types.specs.declared.ops.BinOp.TheVariants.{Add}
@@ -10,7 +10,7 @@ use Rattle.wasm_types.specs.declared.module.LocalRun.{LocalRun}
 use Rattle.wasm_types.specs.declared.module.Body.{Body}
 use Rattle.wasm_types.specs.declared.module.Module.{Module}
 use Rattle.wasm_types.specs.declared.instr.Instr.{Instr, Drop, LocalGet, I32Const, Num}
-use Rattle.wasm_types.specs.Code.{Code, done, one, block, repeat, branch, code_of}
+use Rattle.wasm_types.specs.Code.{Code, done, one, code_of}
 use Rattle.wasm_types.specs.Modules.{Spells}
 
 abbrev pub IsI32 : ValType → Type 0

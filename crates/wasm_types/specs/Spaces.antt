@@ -1,5 +1,5 @@
 -- The numbers of a module's functions, tables, memories and globals: the imported ones come first (WebAssembly Core Specification 1.0, section 2.5.1).
-use Rattle.std.specs.Prelude.{◌≡◌, ℕ, ◌+◌, ◌-◌, ◌≤◌, List, [], ◌∷◌, ◌++◌, length, map, replicate, Option, Some, None, slice_get}
+use Rattle.std.specs.Prelude.{◌≡◌, ℕ, ◌+◌, ◌-◌, ◌≤◌, List, [], ◌∷◌, ◌++◌, length, map, replicate, Option, Some, None, Result, Ok, Err, slice_get, nat_lt, not, ◌||◌, if◌then◌else◌}
 use Rattle.wasm_types.specs.declared.module.ValType.{ValType}
 use Rattle.wasm_types.specs.declared.module.FuncType.{FuncType}
 use Rattle.wasm_types.specs.declared.module.Limits.{Limits}
@@ -57,6 +57,15 @@ IsOwnFunc m f type = (import_count m ≤ f) × (slice_get m.funcs (f - import_co
 -- function f is the module's own, with this body
 abbrev pub HasBody : Module → ℕ → Body → Type 0
 HasBody m f b = (import_count m ≤ f) × (slice_get m.bodies (f - import_count m) ≡ Some b)
+
+-- the body of a function, where it is the module's own and has one
+abbrev pub body_of : Module → ℕ → Option Body
+body_of m f = if nat_lt f (import_count m) || not (nat_lt f (length (func_types m))) then None else slice_get m.bodies (f - import_count m)
+
+-- What a search among the imported functions answers: the type number, or how far the number is past the last of them.
+abbrev pub FindsImport : Result ℕ ℕ → ℕ → List ℕ → Type 0
+FindsImport (Ok type) func types = slice_get types func ≡ Some type
+FindsImport (Err left) func types = func ≡ left + length types
 
 abbrev pub tables_of : Module → List Limits
 tables_of m = imported table_import m.imports ++ m.tables

@@ -1,6 +1,6 @@
 -- What an instruction that holds no others takes from the stack and leaves on it, the top first (WebAssembly Core Specification 1.0, section 3.3;
 -- docs/VALIDITY.md).
-use Rattle.std.specs.Prelude.{◌≡◌, ◌≢◌, ℕ, ◌≤◌, ◌^◌, ◌<◌, List, [], ◌∷◌, length, reverse, Option, Some, slice_get, true}
+use Rattle.std.specs.Prelude.{◌≡◌, ◌≢◌, ℕ, ◌≤◌, ◌^◌, List, [], ◌∷◌, reverse, Some, slice_get, true}
 use Rattle.wasm_types.specs.declared.ops.Width.{Width}
 use Rattle.wasm_types.specs.declared.ops.Width.TheVariants.{W32, W64}
 use Rattle.wasm_types.specs.declared.ops.NumOp.{NumOp}

@@ -1,5 +1,5 @@
 -- Validity, as a relation on whole stacks of types, the top first (WebAssembly Core Specification 1.0, chapter 3; docs/VALIDITY.md).
-use Rattle.std.specs.Prelude.{◌≡◌, ◌≢◌, ℕ, ◌-◌, ◌≤◌, ◌<◌, ◌⊎◌, List, [], ◌∷◌, ◌++◌, length, Option, Some, None, IfSome, All, slice_get, false}
+use Rattle.std.specs.Prelude.{◌≡◌, ◌≢◌, ℕ, ◌-◌, ◌≤◌, ◌<◌, List, [], ◌∷◌, ◌++◌, length, Option, Some, None, IfSome, All, slice_get, false}
 use Rattle.wasm_types.specs.declared.module.ValType.{ValType}
 use Rattle.wasm_types.specs.declared.module.ValType.TheVariants.{I32, I64}
 use Rattle.wasm_types.specs.declared.module.FuncType.{FuncType}
@@ -21,7 +21,7 @@ use Rattle.wasm_types.specs.declared.place.Part.TheVariants as part
 use Rattle.wasm_types.specs.declared.instr.Instr.{Instr, Unreachable, Return, Br, BrIf, BrTable, GlobalGet, I32Const, I64Const}
 use Rattle.wasm_types.specs.Code.{Code, done, one, block, repeat, branch, code_of}
 use Rattle.wasm_types.specs.WellFormed.{IsWellFormed}
-use Rattle.wasm_types.specs.Spaces.{imported, func_import, global_import, import_count, func_types, type_of_func, IsOwnFunc, HasBody, tables_of, mems_of, globals_of, local_types}
+use Rattle.wasm_types.specs.Spaces.{imported, global_import, func_types, type_of_func, IsOwnFunc, HasBody, tables_of, mems_of, globals_of, local_types}
 use Rattle.wasm_types.specs.Typing.{Context, Types}
 
 -- ---- code (section 3.3)

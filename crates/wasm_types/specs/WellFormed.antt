@@ -1,7 +1,6 @@
 -- Well-formed modules (docs/FORMAT.md): every number is in the range of its field, every name is UTF-8, there are as many type numbers of functions as
 -- bodies, and every float instruction has an opcode of its form.
-use Rattle.std.specs.Prelude.{◌≡◌, ℕ, ◌<◌, ◌^◌, List, [], ◌∷◌, length, All, Option, Some, None, IfSome, IsUtf8}
-use Rattle.wasm_types.specs.declared.module.FuncType.{FuncType}
+use Rattle.std.specs.Prelude.{◌≡◌, ℕ, ◌<◌, ◌^◌, List, length, All, IfSome, IsUtf8}
 use Rattle.wasm_types.specs.declared.module.Limits.{Limits}
 use Rattle.wasm_types.specs.declared.module.Name.{Name}
 use Rattle.wasm_types.specs.declared.module.ImportKind.{ImportKind}
