@@ -123,3 +123,64 @@ signed_spells base (suc more) n some few lt =
         | inr ends ↦ rw (le-ltb (n + 64) (2 * (128 * half_of base more)) ends) (inr (omega arith, omega arith, omega arith, omega arith))
       ])
     ]
+
+-- ---- no text of a number is shorter than the shortest
+
+signed_small : (more half n : ℕ) → n < min half 64 → shortest_signed more half n ≡ n ∷ []
+unfolding shortest_signed
+signed_small zero half n lt = let h : n < min 64 half = omega arith in rw (lt-ltb n (min 64 half) h) refl
+signed_small (suc more) half n lt = let h : n < min 64 half = omega arith in rw (lt-ltb n (min 64 half) h) refl
+
+signed_last : (more half n : ℕ) → min half 64 ≤ n → 2 * half ≤ n + 64 → shortest_signed more half n ≡ (n + 128 - 2 * half) ∷ []
+unfolding shortest_signed
+signed_last zero half n big ends = let h : min 64 half ≤ n = omega arith in rw (le-ltb n (min 64 half) h) refl
+signed_last (suc more) half n big ends = let h : min 64 half ≤ n = omega arith in rw (le-ltb n (min 64 half) h, le-ltb (n + 64) (2 * half) ends) refl
+
+pub signed_is_least : (base more n : ℕ) (text : List ℕ) → 0 < base → base ≤ 64 → SpellsSigned (half_of base more) text n → length (shortest_signed more (half_of base more) n) ≤ length text
+unfolding shortest_signed
+signed_is_least base more n [] some few spelled = absurd spelled
+signed_is_least base more n (b ∷ []) some few (inl s) = let small : n < min (half_of base more) 64 = omega (arith, s.0, s.1, s.2) in omega (arith, ap length (signed_small more (half_of base more) n small))
+signed_is_least base more n (b ∷ []) some few (inr s) =
+    elim (cases_lt n (min (half_of base more) 64)) [
+      | inl small ↦ omega (arith, ap length (signed_small more (half_of base more) n small))
+      | inr big ↦ let ends : 2 * half_of base more ≤ n + 64 = omega (arith, s.0, s.3) in omega (arith, ap length (signed_last more (half_of base more) n big ends))
+    ]
+signed_is_least base zero n (b ∷ c ∷ cs) some few spelled = absurd (omega (arith, spelled.2))
+signed_is_least base (suc more) n (b ∷ c ∷ cs) some few spelled =
+    let back : 128 * half_of base more / 128 ≡ half_of base more = omega arith in
+    let high : spelled.3 ≡ n / 128 = omega (arith, spelled.0, spelled.1, spelled.4) in
+    let rest : SpellsSigned (half_of base more) (c ∷ cs) (n / 128) = subst (λ (l : ℕ). SpellsSigned l (c ∷ cs) (n / 128)) back (subst (λ (h : ℕ). SpellsSigned (128 * half_of base more / 128) (c ∷ cs) h) high spelled.5) in
+    elim (cases_lt n (min 64 (128 * half_of base more))) [
+      | inl small ↦ rw (lt-ltb n (min 64 (128 * half_of base more)) small) (omega arith)
+      | inr big ↦ rw (le-ltb n (min 64 (128 * half_of base more)) big) (elim (cases_lt (n + 64) (2 * (128 * half_of base more))) [
+        | inl goes ↦ rw (lt-ltb (n + 64) (2 * (128 * half_of base more)) goes, back) (omega (arith, signed_is_least base more (n / 128) (c ∷ cs) some few rest))
+        | inr ends ↦ rw (le-ltb (n + 64) (2 * (128 * half_of base more)) ends) (omega arith)
+      ])
+    ]
+
+pub unsigned_below : (limit : ℕ) (text : List ℕ) (n : ℕ) → SpellsUnsigned limit text n → n < limit
+unsigned_below limit [] n p = absurd p
+unsigned_below limit (b ∷ []) n p = omega (arith, p.1, p.2)
+unsigned_below limit (b ∷ c ∷ cs) n p = let h = unsigned_below (limit / 128) (c ∷ cs) p.3 p.5 in omega (arith, p.1, p.4, h)
+
+-- the text of a greater number isn't shorter, and none is empty
+pub shortest_grows : (more m n : ℕ) → m ≤ n → length (shortest_unsigned more m) ≤ length (shortest_unsigned more n)
+unfolding shortest_unsigned
+shortest_grows zero m n le = omega arith
+shortest_grows (suc more) m n le =
+    elim (cases_lt n 128) [
+      | inl small ↦ rw (lt-ltb n 128 small, lt-ltb m 128 (omega arith)) (omega arith)
+      | inr big ↦ rw (le-ltb n 128 big) (elim (cases_lt m 128) [
+        | inl small ↦ rw (lt-ltb m 128 small) (omega arith)
+        | inr large ↦ rw (le-ltb m 128 large) (omega (arith, shortest_grows more (m / 128) (n / 128) (omega arith)))
+      ])
+    ]
+
+pub shortest_some : (more n : ℕ) → 1 ≤ length (shortest_unsigned more n)
+unfolding shortest_unsigned
+shortest_some zero n = omega arith
+shortest_some (suc more) n =
+    elim (cases_lt n 128) [
+      | inl small ↦ rw (lt-ltb n 128 small) (omega arith)
+      | inr big ↦ rw (le-ltb n 128 big) (omega arith)
+    ]

@@ -109,7 +109,7 @@ canon_import_kind (import.Memory l) = 0x02 ∷ canon_limits l
 canon_import_kind (import.Global g) = 0x03 ∷ canon_global_type g
 
 abbrev pub canon_import : Import → List ℕ
-canon_import i = canon_name i.module ++ canon_name i.name ++ canon_import_kind i.kind
+canon_import i = canon_name i.module ++ (canon_name i.name ++ canon_import_kind i.kind)
 
 abbrev pub canon_global : GlobalDef → List ℕ
 canon_global g = canon_global_type g.kind ++ canon_instrs g.init
@@ -118,7 +118,7 @@ abbrev pub canon_export : Export → List ℕ
 canon_export e = canon_name e.name ++ export_byte e.kind ∷ shortest_u32 e.index
 
 abbrev pub canon_elem : Elem → List ℕ
-canon_elem e = shortest_u32 e.table ++ canon_instrs e.offset ++ canon_counted shortest_u32 e.funcs
+canon_elem e = shortest_u32 e.table ++ (canon_instrs e.offset ++ canon_counted shortest_u32 e.funcs)
 
 abbrev pub canon_run : LocalRun → List ℕ
 canon_run r = shortest_u32 r.count ++ canon_type r.kind
@@ -130,7 +130,7 @@ abbrev pub canon_entry : Body → List ℕ
 canon_entry b = canon_sized (canon_body b)
 
 abbrev pub canon_segment : DataSegment → List ℕ
-canon_segment d = shortest_u32 d.memory ++ canon_instrs d.offset ++ canon_sized d.bytes
+canon_segment d = shortest_u32 d.memory ++ (canon_instrs d.offset ++ canon_sized d.bytes)
 
 -- ---- sections
 

@@ -1,10 +1,18 @@
 //! Laws of the spelling.
 
-ghost use Rattle.std.specs.Prelude.{◌≡◌, List, ℕ};
+ghost use Rattle.std.specs.Prelude.{◌≡◌, ◌<◌, ◌^◌, length, List, ℕ};
 ghost use Rattle.wasm_types.specs.declared.module.Module.{Module};
+ghost use Rattle.wasm_types.specs.Canon.{canon};
 ghost use Rattle.wasm_types.specs.Modules.{Spells};
+ghost use Rattle.wasm_types.specs.WellFormed.{IsWellFormed};
 
 /// A text spells at most one module.
 pub fn law_one_module()
     ensures { (bytes : List ℕ) (m n : Module) → Spells bytes m → Spells bytes n → m ≡ n }
+{}
+
+/// The canonical spelling of a well-formed module spells it, and no other module.
+pub fn law_canon()
+    ensures spelled { (m : Module) → IsWellFormed m → length (canon m) < 2 ^ 32 → Spells (canon m) m }
+    ensures alone { (m n : Module) → IsWellFormed m → length (canon m) < 2 ^ 32 → Spells (canon m) n → m ≡ n }
 {}
