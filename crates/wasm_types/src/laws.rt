@@ -1,6 +1,6 @@
 //! Laws of the spelling.
 
-ghost use Rattle.std.specs.Prelude.{◌≡◌, ◌<◌, ◌^◌, length, List, ℕ};
+ghost use Rattle.std.specs.Prelude.{◌≡◌, ◌<◌, ◌≤◌, ◌^◌, length, List, ℕ};
 ghost use Rattle.wasm_types.specs.declared.module.Module.{Module};
 ghost use Rattle.wasm_types.specs.Canon.{canon};
 ghost use Rattle.wasm_types.specs.Modules.{Spells};
@@ -15,4 +15,9 @@ pub fn law_one_module()
 pub fn law_canon()
     ensures spelled { (m : Module) → IsWellFormed m → length (canon m) < 2 ^ 32 → Spells (canon m) m }
     ensures alone { (m n : Module) → IsWellFormed m → length (canon m) < 2 ^ 32 → Spells (canon m) n → m ≡ n }
+{}
+
+/// No spelling of a module is shorter than the canonical one.
+pub fn law_canon_is_shortest()
+    ensures { (bytes : List ℕ) (m : Module) → Spells bytes m → length (canon m) ≤ length bytes }
 {}
