@@ -1,15 +1,11 @@
 -- The canonical spelling is a spelling, if it is no longer than a section may be.
-use Rattle.std.proofs.Common.{◌≡◌, ◌≢◌, ◌==◌, ℕ, ◌+◌, ◌*◌, ◌/◌, ◌%◌, ◌<◌, ◌^◌, ◌≤◌, max, inl, inr, Bool, true, false, List, [], ◌∷◌, ◌++◌, length, Option, Some, None, refl, sym, ap, subst, ◌∙◌, append_assoc, arith, length-append}
-use Rattle.std.specs.Prelude.{All, IfSome, IsUtf8, codes, if◌then◌else◌}
+use Rattle.std.proofs.Common.{ℕ, ◌/◌, ◌%◌, ◌<◌, ◌^◌, ◌≤◌, inl, inr, List, [], ◌∷◌, ◌++◌, length, Option, Some, None, refl, arith, length-append}
+use Rattle.std.specs.Prelude.{All, IfSome}
 use Rattle.std.proofs.lemmas.List.Elements.{All-head, All-tail}
-use Rattle.std.proofs.lemmas.Str.{IsUtf8-from_is_utf8}
-use Rattle.std.proofs.lemmas.Bool.{cases_lt}
-use Rattle.std.proofs.lemmas.Bool.Decides.{nat_tests}
 use Rattle.wasm_types.specs.declared.module.ValType.{ValType}
 use Rattle.wasm_types.specs.declared.module.FuncType.{FuncType}
 use Rattle.wasm_types.specs.declared.module.Limits.{Limits}
 use Rattle.wasm_types.specs.declared.module.GlobalType.{GlobalType}
-use Rattle.wasm_types.specs.declared.module.Name.{Name}
 use Rattle.wasm_types.specs.declared.module.ImportKind.{ImportKind}
 use Rattle.wasm_types.specs.declared.module.ImportKind.TheVariants as import
 use Rattle.wasm_types.specs.declared.module.Import.{Import}
@@ -19,18 +15,15 @@ use Rattle.wasm_types.specs.declared.module.Elem.{Elem}
 use Rattle.wasm_types.specs.declared.module.LocalRun.{LocalRun}
 use Rattle.wasm_types.specs.declared.module.Body.{Body}
 use Rattle.wasm_types.specs.declared.module.DataSegment.{DataSegment}
-use Rattle.wasm_types.specs.declared.module.Module.{Module}
-use Rattle.wasm_types.specs.declared.instr.Instr.{Instr}
 use Rattle.wasm_types.specs.Numbers.{SpellsU32, shortest_u32}
-use Rattle.wasm_types.specs.Parts.{Then, Behind, Both, Each, Counted, Sized, Within}
+use Rattle.wasm_types.specs.Parts.{Behind, Both, Each, Counted, Sized, Within}
 use Rattle.wasm_types.specs.Code.{Code, done, one, block, repeat, branch, code_of}
 use Rattle.wasm_types.specs.Types.{kind_byte, SpellsValType, SpellsFuncType, LimitsFrom, SpellsLimits, SpellsTableType, mutable_byte, SpellsGlobalType}
-use Rattle.wasm_types.specs.Plain.{Immediates, nothing, number, labels, signature, address, memory, signed_32, signed_64, raw_32, raw_64, never, opcode, immediates, SpellsRaw32, SpellsImmediates}
+use Rattle.wasm_types.specs.Plain.{Immediates, nothing, number, labels, signature, address, memory, signed_32, signed_64, raw_32, raw_64, never, immediates, SpellsRaw32, SpellsImmediates}
 use Rattle.wasm_types.specs.Grammar.{HasArms, SpellsCode, SpellsInstrs}
-use Rattle.wasm_types.specs.Sections.{export_byte, SpellsName, SpellsCustom, SpellsImportKind, SpellsImport, SpellsGlobal, SpellsExport, SpellsElem, SpellsRun, SpellsBody, SpellsSegment}
-use Rattle.wasm_types.specs.Modules.{header, SpellsFrame, MayFollow, InOrder, contents_of, ListIs, OptionIs, NamesAre, Spells}
-use Rattle.wasm_types.specs.WellFormed.{IsU32, ProperImmediates, ProperCode, ProperInstrs, ProperLimits, ProperName, ProperImportKind, ProperImport, ProperGlobal, ProperExport, ProperElem, ProperBody, ProperSegment, IsWellFormed}
-use Rattle.wasm_types.specs.Canon.{canon_each, canon_counted, canon_sized, canon_raw_32, canon_immediates, canon_plain, else_part, canon_code, canon_instrs, canon_type, canon_func_type, canon_limits_from, canon_limits, canon_table_type, canon_global_type, canon_name, canon_import_kind, canon_import, canon_global, canon_export, canon_elem, canon_run, canon_body, canon_entry, canon_segment, canon_section, canon_list, canon_start, canon_names, canon}
+use Rattle.wasm_types.specs.Sections.{export_byte, SpellsName, SpellsImportKind, SpellsImport, SpellsGlobal, SpellsExport, SpellsElem, SpellsRun, SpellsBody, SpellsSegment}
+use Rattle.wasm_types.specs.WellFormed.{IsU32, ProperImmediates, ProperCode, ProperInstrs, ProperLimits, ProperName, ProperImportKind, ProperImport, ProperGlobal, ProperExport, ProperElem, ProperBody, ProperSegment}
+use Rattle.wasm_types.specs.Canon.{canon_each, canon_counted, canon_sized, canon_raw_32, canon_immediates, canon_plain, else_part, canon_code, canon_instrs, canon_type, canon_func_type, canon_limits_from, canon_limits, canon_table_type, canon_global_type, canon_name, canon_import_kind, canon_import, canon_global, canon_export, canon_elem, canon_run, canon_body, canon_entry, canon_segment}
 use Rattle.wasm_types.proofs.NumberLemmas.{shortest_spells, signed_spells, shortest_some}
 
 -- ---- lengths
@@ -74,7 +67,9 @@ behind byte P a p = record { rest = a; parts = refl; spelled = p }
 each_spelled : {A : Type 0} (P : List ℕ → A → Type 0) (f : A → List ℕ) (Q : A → Type 0) → IsSpelled P f Q → (xs : List A) → All Q xs → length (canon_each f xs) < 2 ^ 32 → Each P (canon_each f xs) xs
 each_spelled P f Q law [] h lt = refl
 each_spelled P f Q law (x ∷ xs) h lt = record {
-  front = f x; back = canon_each f xs; parts = refl;
+  front = f x;
+  back = canon_each f xs;
+  parts = refl;
   first = law x (All-head Q x xs h) (left (f x) (canon_each f xs) lt);
   second = each_spelled P f Q law xs (All-tail Q x xs h) (right (f x) (canon_each f xs) lt);
 }
@@ -83,15 +78,20 @@ pub counted_spelled : {A : Type 0} (P : List ℕ → A → Type 0) (f : A → Li
 counted_spelled P f Q law some xs h lt =
     let rest : length (canon_each f xs) < 2 ^ 32 = right (shortest_u32 (length xs)) (canon_each f xs) lt in
     record {
-      front = shortest_u32 (length xs); back = canon_each f xs; parts = refl;
+      front = shortest_u32 (length xs);
+      back = canon_each f xs;
+      parts = refl;
       first = u32_spelled (length xs) (omega (arith, each_long f some xs, rest));
       second = each_spelled P f Q law xs h rest;
     }
 
 pub sized_spelled : (bytes : List ℕ) → length (canon_sized bytes) < 2 ^ 32 → Sized (canon_sized bytes) bytes
 sized_spelled bytes lt = record {
-  front = shortest_u32 (length bytes); back = bytes; parts = refl;
-  first = u32_spelled (length bytes) (right (shortest_u32 (length bytes)) bytes lt); second = refl;
+  front = shortest_u32 (length bytes);
+  back = bytes;
+  parts = refl;
+  first = u32_spelled (length bytes) (right (shortest_u32 (length bytes)) bytes lt);
+  second = refl;
 }
 
 pub spelled_u32s : IsSpelled (Counted SpellsU32) (canon_counted shortest_u32) (All IsU32)
@@ -133,7 +133,9 @@ code_spelled done h lt = refl
 code_spelled (one i rest) h lt =
     let whole : length (canon_immediates (immediates i)) < 2 ^ 32 = omega (arith, left (canon_plain i) (canon_code rest) lt) in
     record {
-      front = canon_plain i; back = canon_code rest; parts = refl;
+      front = canon_plain i;
+      back = canon_code rest;
+      parts = refl;
       first = record { rest = canon_immediates (immediates i); parts = refl; spelled = immediates_spelled (immediates i) h.0 whole };
       second = code_spelled rest h.1 (right (canon_plain i) (canon_code rest) lt);
     }
@@ -141,7 +143,9 @@ code_spelled (block k inner rest) h lt =
     let text : List ℕ = 0x02 ∷ kind_byte k ∷ canon_code inner ++ 0x0B ∷ [] in
     let fits = inside 0x02 (kind_byte k) (canon_code inner ++ 0x0B ∷ []) (left text (canon_code rest) lt) in
     record {
-      front = text; back = canon_code rest; parts = refl;
+      front = text;
+      back = canon_code rest;
+      parts = refl;
       first = record { inner = canon_code inner; parts = refl; contents = code_spelled inner h.0 (left (canon_code inner) (0x0B ∷ []) fits) };
       second = code_spelled rest h.1 (right text (canon_code rest) lt);
     }
@@ -149,7 +153,9 @@ code_spelled (repeat k inner rest) h lt =
     let text : List ℕ = 0x03 ∷ kind_byte k ∷ canon_code inner ++ 0x0B ∷ [] in
     let fits = inside 0x03 (kind_byte k) (canon_code inner ++ 0x0B ∷ []) (left text (canon_code rest) lt) in
     record {
-      front = text; back = canon_code rest; parts = refl;
+      front = text;
+      back = canon_code rest;
+      parts = refl;
       first = record { inner = canon_code inner; parts = refl; contents = code_spelled inner h.0 (left (canon_code inner) (0x0B ∷ []) fits) };
       second = code_spelled rest h.1 (right text (canon_code rest) lt);
     }
@@ -159,7 +165,9 @@ code_spelled (branch k m n rest) h lt =
     let fits = inside 0x04 (kind_byte k) (canon_code m ++ ends) (left text (canon_code rest) lt) in
     let other = left (else_part (canon_code n)) (0x0B ∷ []) (right (canon_code m) ends fits) in
     record {
-      front = text; back = canon_code rest; parts = refl;
+      front = text;
+      back = canon_code rest;
+      parts = refl;
       first = arms_spelled k (SpellsCode m) (SpellsCode n) (canon_code m) (canon_code n) (code_spelled m h.0 (left (canon_code m) ends fits)) (code_spelled n h.1 (omega (arith, else_long (canon_code n), other)));
       second = code_spelled rest h.2 (right text (canon_code rest) lt);
     }
@@ -226,7 +234,9 @@ pub spelled_export : IsSpelled SpellsExport canon_export ProperExport
 spelled_export e h lt =
     let ends : List ℕ = export_byte e.kind ∷ shortest_u32 e.index in
     record {
-      front = canon_name e.name; back = ends; parts = refl;
+      front = canon_name e.name;
+      back = ends;
+      parts = refl;
       first = spelled_name e.name h.0 (left (canon_name e.name) ends lt);
       second = record { front = export_byte e.kind ∷ []; back = shortest_u32 e.index; parts = refl; first = refl; second = u32_spelled e.index h.1 };
     }

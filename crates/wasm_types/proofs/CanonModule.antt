@@ -1,6 +1,6 @@
 -- The canonical spelling of a module is a spelling of it.
-use Rattle.std.proofs.Common.{◌≡◌, ◌≢◌, ◌==◌, ℕ, ◌+◌, ◌<◌, ◌^◌, ◌≤◌, max, inl, inr, Bool, true, false, List, [], ◌∷◌, ◌++◌, length, Option, Some, None, refl, sym, ap, subst, ◌∙◌, append_assoc, arith, rules, length-append}
-use Rattle.std.specs.Prelude.{All, IfSome, IsUtf8, codes, if◌then◌else◌}
+use Rattle.std.proofs.Common.{◌≡◌, ◌==◌, ℕ, ◌<◌, ◌^◌, ◌≤◌, max, inl, inr, false, List, [], ◌∷◌, ◌++◌, length, Option, Some, None, refl, sym, ap, subst, ◌∙◌, append_assoc, arith, rules}
+use Rattle.std.specs.Prelude.{All, IfSome, codes, if◌then◌else◌}
 use Rattle.std.proofs.lemmas.Str.{IsUtf8-from_ascii}
 use Rattle.std.proofs.lemmas.List.{append-nil}
 use Rattle.std.proofs.lemmas.Bool.Decides.{nat_tests}
@@ -11,8 +11,8 @@ use Rattle.wasm_types.specs.Numbers.{SpellsU32, shortest_u32}
 use Rattle.wasm_types.specs.Parts.{Each, Counted, Within}
 use Rattle.wasm_types.specs.Types.{SpellsFuncType, SpellsLimits, SpellsTableType}
 use Rattle.wasm_types.specs.Sections.{SpellsCustom, SpellsTypes, SpellsImport, SpellsImports, SpellsFuncs, SpellsTables, SpellsMems, SpellsGlobal, SpellsGlobals, SpellsExport, SpellsExports, SpellsElem, SpellsElems, SpellsBody, SpellsBodies, SpellsSegment, SpellsSegments}
-use Rattle.wasm_types.specs.Modules.{header, SpellsFrame, MayFollow, InOrder, contents_of, ListIs, OptionIs, NamesAre, Spells}
-use Rattle.wasm_types.specs.WellFormed.{IsU8, IsU32, ProperLimits, ProperImport, ProperGlobal, ProperExport, ProperElem, ProperBody, ProperSegment, IsWellFormed}
+use Rattle.wasm_types.specs.Modules.{header, SpellsFrame, InOrder, contents_of, ListIs, OptionIs, NamesAre, Spells}
+use Rattle.wasm_types.specs.WellFormed.{IsU32, ProperLimits, ProperImport, ProperGlobal, ProperExport, ProperElem, ProperBody, ProperSegment, IsWellFormed}
 use Rattle.wasm_types.specs.Canon.{canon_counted, canon_sized, canon_func_type, canon_limits, canon_table_type, canon_import, canon_global, canon_export, canon_elem, canon_entry, canon_segment, canon_section, canon_list, canon_start, canon_names, canon}
 use Rattle.wasm_types.proofs.CanonLemmas.{left, right, IsSpelled, Any, any_of, u32_spelled, spelled_u32, some_u32, counted_spelled, sized_spelled, spelled_func_type, some_func_type, spelled_import, some_import, spelled_table_type, some_table_type, spelled_limits, some_limits, spelled_global, some_global, spelled_export, some_export, spelled_elem, some_elem, spelled_entry, some_entry, spelled_segment, some_segment}
 
@@ -134,7 +134,9 @@ tail_named (Some payload) lt =
     let sized : length (canon_sized contents) < 2 ^ 32 = omega arith in
     let fits = left (canon_sized (codes "name")) payload (right (shortest_u32 (length contents)) contents sized) in
     let custom : SpellsCustom (canon_sized (codes "name") ++ payload) (name_of (codes "name"), payload) = record {
-      front = canon_sized (codes "name"); back = payload; parts = refl;
+      front = canon_sized (codes "name");
+      back = payload;
+      parts = refl;
       first = (sized_spelled (codes "name") fits, IsUtf8-from_ascii (codes "name") (search rules));
       second = refl;
     } in

@@ -1,31 +1,19 @@
 -- No spelling of a module is shorter than the canonical one.
-use Rattle.std.proofs.Common.{◌≡◌, ◌≢◌, ◌==◌, ℕ, zero, suc, ◌+◌, ◌<◌, ◌≤◌, ◌⊎◌, inl, inr, Bool, true, false, List, [], ◌∷◌, ◌++◌, length, Option, Some, None, refl, sym, ap, subst, ◌∙◌, arith, length-append}
+use Rattle.std.proofs.Common.{◌≡◌, ◌≢◌, ◌==◌, ℕ, zero, suc, ◌+◌, ◌≤◌, inl, inr, Bool, true, false, List, [], ◌∷◌, ◌++◌, length, Option, Some, None, refl, sym, ap, subst, ◌∙◌, arith, length-append}
 use Rattle.std.specs.Prelude.{codes, bytes_eq, if◌then◌else◌}
-use Rattle.std.proofs.lemmas.Bool.{cases_lt, cases_eq}
+use Rattle.std.proofs.lemmas.Bool.{cases_eq}
 use Rattle.std.proofs.lemmas.Bool.Decides.{nat_tests}
 use Rattle.std.proofs.lemmas.Slice.Eq.{bytes_eq-Decides}
 use Rattle.wasm_types.specs.declared.module.ValType.{ValType}
-use Rattle.wasm_types.specs.declared.module.FuncType.{FuncType}
-use Rattle.wasm_types.specs.declared.module.Limits.{Limits}
-use Rattle.wasm_types.specs.declared.module.GlobalType.{GlobalType}
 use Rattle.wasm_types.specs.declared.module.Name.{Name}
-use Rattle.wasm_types.specs.declared.module.ImportKind.{ImportKind}
 use Rattle.wasm_types.specs.declared.module.ImportKind.TheVariants as import
-use Rattle.wasm_types.specs.declared.module.Import.{Import}
-use Rattle.wasm_types.specs.declared.module.GlobalDef.{GlobalDef}
-use Rattle.wasm_types.specs.declared.module.Export.{Export}
-use Rattle.wasm_types.specs.declared.module.Elem.{Elem}
-use Rattle.wasm_types.specs.declared.module.LocalRun.{LocalRun}
-use Rattle.wasm_types.specs.declared.module.Body.{Body}
-use Rattle.wasm_types.specs.declared.module.DataSegment.{DataSegment}
 use Rattle.wasm_types.specs.declared.module.Module.{Module}
-use Rattle.wasm_types.specs.declared.instr.Instr.{Instr}
 use Rattle.wasm_types.specs.Numbers.{SpellsU32, shortest_u32}
-use Rattle.wasm_types.specs.Parts.{Then, Behind, Both, Each, Counted, Sized, Within}
+use Rattle.wasm_types.specs.Parts.{Both, Each, Counted, Sized, Within}
 use Rattle.wasm_types.specs.Code.{Code, done, one, block, repeat, branch, code_of}
 use Rattle.wasm_types.specs.Types.{kind_byte, mutable_byte, SpellsValType, SpellsFuncType, LimitsFrom, SpellsLimits, SpellsTableType, SpellsGlobalType}
 use Rattle.wasm_types.specs.Plain.{Immediates, nothing, number, labels, signature, address, memory, signed_32, signed_64, raw_32, raw_64, never, opcode, immediates, SpellsRaw32, SpellsImmediates}
-use Rattle.wasm_types.specs.Grammar.{Encloses, HasArms, SpellsCode, SpellsInstrs}
+use Rattle.wasm_types.specs.Grammar.{Encloses, SpellsCode, SpellsInstrs}
 use Rattle.wasm_types.specs.Sections.{export_byte, SpellsName, SpellsCustom, SpellsImportKind, SpellsImport, SpellsGlobal, SpellsExport, SpellsElem, SpellsRun, SpellsBody, SpellsSegment}
 use Rattle.wasm_types.specs.Modules.{header, SpellsFrame, contents_of, ListIs, OptionIs, named_payload, later_of, NamesAre, Spells}
 use Rattle.wasm_types.specs.Canon.{canon_each, canon_counted, canon_sized, canon_raw_32, canon_immediates, canon_plain, else_part, canon_code, canon_instrs, canon_type, canon_func_type, canon_limits_from, canon_limits, canon_table_type, canon_global_type, canon_name, canon_import_kind, canon_import, canon_global, canon_export, canon_elem, canon_run, canon_body, canon_entry, canon_segment, canon_section, canon_list, canon_start, canon_names, canon}
@@ -263,11 +251,11 @@ frames_least text (f ∷ fs) names s h =
     let size : length text ≡ length s.front + length s.back = ap length s.parts ∙ length-append s.front s.back in
     elim h.2 [
       | inl a ↦ let more : costs (f ∷ fs) ≤ costs fs + cost (Some f.1) =
-        more_sum 11 f.0 (cost (Some f.1)) (λ id. cost (contents_of id fs)) (λ id. cost (contents_of id (f ∷ fs))) (λ id off. ap cost (other_contents f fs id off)) (omega (arith, ap cost (own_contents f fs))) in
-        omega (arith, rest, here, size, more, ap size_of a.1)
+          more_sum 11 f.0 (cost (Some f.1)) (λ id. cost (contents_of id fs)) (λ id. cost (contents_of id (f ∷ fs))) (λ id off. ap cost (other_contents f fs id off)) (omega (arith, ap cost (own_contents f fs))) in
+          omega (arith, rest, here, size, more, ap size_of a.1)
       | inr a ↦ let same : costs (f ∷ fs) ≡ costs fs =
-        same_sum 11 (λ id. cost (contents_of id fs)) (λ id. cost (contents_of id (f ∷ fs))) (λ id some le. ap cost (other_contents f fs id (λ e. omega (arith, some, e, a.0)))) in
-        omega (arith, rest, here, size, same, ap size_of a.3, later_least h.0 (named_payload a.1), payload_least f.1 a.1 a.2)
+          same_sum 11 (λ id. cost (contents_of id fs)) (λ id. cost (contents_of id (f ∷ fs))) (λ id some le. ap cost (other_contents f fs id (λ e. omega (arith, some, e, a.0)))) in
+          omega (arith, rest, here, size, same, ap size_of a.3, later_least h.0 (named_payload a.1), payload_least f.1 a.1 a.2)
     ]
 
 -- ---- the module

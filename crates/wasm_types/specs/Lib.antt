@@ -13,3 +13,4 @@ pub mod Small
 pub mod Spaces
 pub mod Typing
 pub mod Validity
+pub mod Sizes
