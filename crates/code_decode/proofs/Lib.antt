@@ -1,0 +1,4 @@
+pub mod PlainLemmas
+pub mod Steps
+pub mod ScanLemmas
+pub mod ExprLemmas

@@ -1,0 +1,38 @@
+use Rattle.std.proofs.Common.{◌-◌, ◌+◌, ℕ, List, [], ◌∷◌, ◌++◌, subst, arith}
+use Rattle.wasm_types.specs.Numbers.{SpellsU32}
+use Rattle.wasm_types.specs.Standing.{Stands}
+use Rattle.wasm_types.specs.Parts.{EachOf}
+use Rattle.wasm_types.proofs.Once.{once_u32}
+use Rattle.wasm_types.proofs.StandingLemmas.{no_items_yet, one_more_stands, none_of_more, none_of_any, none_of_same, counted_stands, none_counted_first, none_counted_second}
+use Rattle.code_decode.proofs.plain.skip_numbers.Goals as goal
+
+pub loop-k-init : goal.loop-k-init
+loop-k-init c = record {
+  so_far = ([], no_items_yet SpellsU32 c.args.bytes.now c.in-Some.found.1 c.in-Some.ensures.within);
+  back = none_of_same SpellsU32 c.args.bytes.now c.in-Some.found.1 _ _ (omega arith);
+}
+
+pub loop-k-preserved : goal.loop-k-preserved
+loop-k-preserved c = record {
+  so_far = (
+    c.loop-k.invariant.so_far.0 ++ c.in-Some-skip_number.ensures.0 ∷ [],
+    one_more_stands SpellsU32 c.args.bytes.now c.in-Some.found.1 c.loop-k.place c.in-Some-skip_number.next c.loop-k._k c.loop-k.invariant.so_far.0 c.in-Some-skip_number.ensures.0 c.loop-k.invariant.so_far.1 c.in-Some-skip_number.ensures.1,
+  );
+  back = λ h. c.loop-k.invariant.back (none_of_same SpellsU32 c.args.bytes.now c.loop-k.place (c.in-Some.found.0 - (c.loop-k._k + 1) + 1) (c.in-Some.found.0 - c.loop-k._k) (omega arith)
+      (none_of_more SpellsU32 c.args.bytes.now c.loop-k.place c.in-Some-skip_number.next (c.in-Some.found.0 - (c.loop-k._k + 1)) c.in-Some-skip_number.ensures.0 once_u32 c.in-Some-skip_number.ensures.1 h));
+}
+
+pub returns : goal.returns
+returns c =
+    let xs : List ℕ = c.loop-k.invariant.so_far.0 in
+    let all : Stands (EachOf SpellsU32 c.in-Some.found.0) c.args.bytes.now c.in-Some.found.1 c.loop-k.place xs =
+    subst (λ (n : ℕ). Stands (EachOf SpellsU32 n) c.args.bytes.now c.in-Some.found.1 c.loop-k.place xs) (omega arith) c.loop-k.invariant.so_far.1 in
+    (xs, counted_stands SpellsU32 c.args.bytes.now c.args.at c.in-Some.found.1 c.loop-k.place c.in-Some.found.0 xs c.in-Some.ensures all)
+
+pub returns-in-None : goal.returns-in-None
+returns-in-None c = none_counted_first SpellsU32 c.args.bytes.now c.args.at c.in-None.ensures
+
+pub returns-in-None-skip_number : goal.returns-in-None-skip_number
+returns-in-None-skip_number c =
+    none_counted_second SpellsU32 c.args.bytes.now c.args.at c.in-Some.found.1 c.in-Some.found.0 c.in-Some.ensures
+    (c.loop-k.invariant.back (none_of_any SpellsU32 c.args.bytes.now c.loop-k.place (c.in-Some.found.0 - c.loop-k._k) (omega arith) c.in-None-skip_number.ensures))

@@ -1,0 +1,15 @@
+//! Expressions from bytes (WebAssembly Core Specification 1.0, section 5.4).
+#![tactic(auto)]
+
+mod expr;
+mod outcome;
+mod plain;
+mod read;
+mod scan;
+mod table;
+#[cfg(test)]
+mod tests;
+
+pub use expr::{CodeRefusal, read_expr};
+pub use outcome::Stop;
+pub use plain::read_numbers;

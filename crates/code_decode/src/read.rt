@@ -1,0 +1,124 @@
+//! Sequences of instructions (sections 5.4.1 and 5.4.6).
+
+ghost use Rattle.std.specs.Prelude.{◌≡◌, ◌≢◌, ◌<◌, ◌≤◌, MatchOption, Option, length, slice_index};
+ghost use Rattle.wasm_types.specs.declared.module.ValType.{ValType};
+ghost use Rattle.wasm_types.specs.Types.{kind_byte};
+ghost use Rattle.code_decode.specs.Reading.{ReadsCode, ReadsInstr, ReadsEnclosed};
+
+use crate::outcome::Stop;
+use crate::plain::read_plain;
+use sqlite_items::Items;
+use std::alloc::Global;
+use wasm_types::{Instr, ValType};
+
+/// The block type of a byte (section 5.3.2).
+pub(crate) fn read_kind(byte: u8) -> Option<Option<ValType>>
+    ensures { MatchOption result ((k : Option ValType) → byte ≢ kind_byte k) (λ k. byte ≡ kind_byte k) }
+{
+    match byte {
+        0x40 => Some(None),
+        0x7F => Some(Some(ValType::I32)),
+        0x7E => Some(Some(ValType::I64)),
+        0x7D => Some(Some(ValType::F32)),
+        0x7C => Some(Some(ValType::F64)),
+        _ => None,
+    }
+}
+
+#[cycle(code)]
+fn read_enclosed(
+    alloc: Global,
+    bytes: &[u8],
+    at: usize,
+    room: u32,
+) -> Result<(Option<ValType>, Items<Instr>, usize), Stop>
+    requires { at < length bytes.now }
+    ensures { ReadsEnclosed (slice_index bytes.now at) room bytes.now at result }
+{
+    if room == 0 || at + 1 >= bytes.len() {
+        return Err(Stop::No);
+    }
+    let Some(kind) = read_kind(bytes[at + 1]) else {
+        return Err(Stop::No);
+    };
+    let (inner, end) = read_code(alloc, bytes, at + 2, room - 1)?;
+    if bytes[end] != 0x0B {
+        return Err(Stop::No);
+    }
+    Ok((kind, inner, end + 1))
+}
+
+#[cycle(code)]
+fn read_if(alloc: Global, bytes: &[u8], at: usize, room: u32) -> Result<(Instr, usize), Stop>
+    requires within { at < length bytes.now }
+    requires opened { slice_index bytes.now at ≡ 0x04 }
+    ensures { ReadsInstr room bytes.now at result }
+{
+    if room == 0 || at + 1 >= bytes.len() {
+        return Err(Stop::No);
+    }
+    let kind = match read_kind(bytes[at + 1]) {
+        Some(kind) => kind,
+        None => return Err(Stop::No),
+    };
+    let (first, middle) = match read_code(alloc, bytes, at + 2, room - 1) {
+        Ok(found) => found,
+        Err(stop) => return Err(stop),
+    };
+    if bytes[middle] == 0x0B {
+        return Ok((Instr::If(kind, first, Items::new(alloc)), middle + 1));
+    }
+    let (second, end) = match read_code(alloc, bytes, middle + 1, room - 1) {
+        Ok(found) => found,
+        Err(stop) => return Err(stop),
+    };
+    if bytes[end] != 0x0B {
+        return Err(Stop::No);
+    }
+    Ok((Instr::If(kind, first, second), end + 1))
+}
+
+#[cycle(code)]
+fn read_instr(alloc: Global, bytes: &[u8], at: usize, room: u32) -> Result<(Instr, usize), Stop>
+    requires { at < length bytes.now }
+    ensures { ReadsInstr room bytes.now at result }
+{
+    match bytes[at] {
+        0x02 => match read_enclosed(alloc, bytes, at, room) {
+            Ok((kind, inner, end)) => Ok((Instr::Block(kind, inner), end)),
+            Err(stop) => Err(stop),
+        },
+        0x03 => match read_enclosed(alloc, bytes, at, room) {
+            Ok((kind, inner, end)) => Ok((Instr::Loop(kind, inner), end)),
+            Err(stop) => Err(stop),
+        },
+        0x04 => read_if(alloc, bytes, at, room),
+        _ => match read_plain(alloc, bytes, at) {
+            Ok((instr, end)) => Ok((instr, end)),
+            Err(stop) => Err(stop),
+        },
+    }
+}
+
+#[cycle(code)]
+pub(crate) fn read_code(
+    alloc: Global,
+    bytes: &[u8],
+    at: usize,
+    room: u32,
+) -> Result<(Items<Instr>, usize), Stop>
+    requires { at ≤ length bytes.now }
+    ensures { ReadsCode room bytes.now at result }
+{
+    let mut code = Items::new(alloc);
+    let mut place = at;
+    while place < bytes.len() && bytes[place] != 0x0B && bytes[place] != 0x05 {
+        let (instr, next) = read_instr(alloc, bytes, place, room)?;
+        code.push(instr)?;
+        place = next;
+    }
+    if place >= bytes.len() {
+        return Err(Stop::No);
+    }
+    Ok((code, place))
+}

@@ -1,0 +1,42 @@
+use crate::{CodeRefusal, Stop, read_expr, read_numbers};
+use std::alloc::{AllocError, Global};
+
+/// So many blocks in one another, and the end of the expression.
+fn nested(alloc: Global, depth: u32) -> Result<Vec<u8>, AllocError> {
+    let mut bytes = Vec::new(alloc);
+    for _ in 0..depth {
+        bytes.push(0x02)?;
+        bytes.push(0x40)?;
+    }
+    for _ in 0..depth {
+        bytes.push(0x0B)?;
+    }
+    bytes.push(0x0B)?;
+    Ok(bytes)
+}
+
+#[test]
+fn depth_is_exact(rt: HostRuntime) -> Result<(), AllocError> {
+    let alloc = rt.alloc();
+    let deepest = nested(alloc, 1024)?;
+    let read = read_expr(alloc, &deepest, 0);
+    assert!(&rt; matches!(read, Ok((_, 3073))));
+    let deeper = nested(alloc, 1025)?;
+    let read = read_expr(alloc, &deeper, 0);
+    assert!(&rt; matches!(read, Err(CodeRefusal::TooDeep { end: 3076 })));
+    let mut far = nested(alloc, 200000)?;
+    let read = read_expr(alloc, &far, 0);
+    assert!(&rt; matches!(read, Err(CodeRefusal::TooDeep { end: 600001 })));
+    far.pop();
+    let cut = read_expr(alloc, &far, 0);
+    assert!(&rt; matches!(cut, Err(CodeRefusal::Malformed)));
+    Ok(())
+}
+
+#[test]
+fn numbers_are_read(rt: HostRuntime) {
+    let alloc = rt.alloc();
+    let bytes = [0xFF, 0x02, 0x80, 0x01, 0x7F, 0x00];
+    assert!(&rt; matches!(read_numbers(alloc, &bytes, 1), Ok((_, 5))));
+    assert!(&rt; matches!(read_numbers(alloc, &bytes, 0), Err(Stop::No)));
+}
