@@ -1,0 +1,10 @@
+pub mod Answers
+pub mod Decodes
+pub mod Empty
+pub mod Orders
+pub mod Outcome
+pub mod Parses
+pub mod Refusals
+pub mod Reply
+pub mod Statuses
+pub mod Words

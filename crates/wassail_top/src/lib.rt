@@ -1,0 +1,18 @@
+//! All that the program does, over any source and sinks.
+#![tactic(auto)]
+
+mod decode;
+mod deliver;
+mod due;
+mod encode;
+mod refusal;
+mod status;
+mod top;
+mod words;
+
+pub use status::Status;
+pub use top::{law_one_answer, wassail};
+pub use words::{Command, WordsEnd, parse_words};
+
+#[cfg(test)]
+mod tests;

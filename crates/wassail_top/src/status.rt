@@ -1,0 +1,36 @@
+// How the program ends.
+ghost use Rattle.std.specs.Prelude.{◌≡◌};
+ghost use Rattle.wassail_top.specs.Statuses.{status_code};
+
+/// How the program ends.
+#[derive(Clone, Copy, Debug, PartialEq, Eq)]
+pub enum Status {
+    /// The answer was written.
+    Answered,
+    /// The bytes that were read are too many, or no module that is read today.
+    ModuleRefused,
+    /// The words are no command.
+    WordsRefused,
+    /// A read failed.
+    ReadFailed,
+    /// A write failed.
+    WriteFailed,
+    /// Memory was wanted and isn't there.
+    NoMemory,
+}
+
+impl Status {
+    /// The exit status: 0 for an answer, and then 1 to 5 in the order above.
+    pub fn code(self) -> u8
+        ensures { result ≡ status_code self }
+    {
+        match self {
+            Status::Answered => 0,
+            Status::ModuleRefused => 1,
+            Status::WordsRefused => 2,
+            Status::ReadFailed => 3,
+            Status::WriteFailed => 4,
+            Status::NoMemory => 5,
+        }
+    }
+}

@@ -1,0 +1,78 @@
+// The call that does all that the program does.
+ghost use Rattle.std.specs.Prelude.{◌≡◌, ◌≢◌, ◌⊎◌, ◌≤◌, ◌∷◌, ℕ, List, [], None, Some, map, length, codes};
+ghost use Rattle.std.specs.String.{string_bytes};
+ghost use Rattle.std.specs.declared.option.Option.{Option};
+ghost use Rattle.std.specs.Io.KnownBytes.{Keeps};
+ghost use Rattle.outside_io.specs.Causes.{Rose};
+ghost use Rattle.wasm_types.specs.declared.module.Module.{Module};
+ghost use Rattle.wasm_types.specs.Small.{SpellsSmall};
+ghost use Rattle.wassail_top.specs.Answers.{Answers, most_bytes};
+ghost use Rattle.wassail_top.specs.Outcome.{Answered, ReadFailed, WriteFailed};
+ghost use Rattle.wassail_top.specs.Refusals.{Answer};
+ghost use Rattle.wassail_top.specs.Words.{order_of};
+
+use crate::deliver::deliver;
+use crate::due::due;
+use crate::status::Status;
+use outside_io::{Sink, Source};
+use std::alloc::Global;
+
+/// Reads the words, reads `source` where they are a command that reads, and writes the answer to `out` and `err`. What
+/// comes out is the exit status (`Status`); docs/COMMANDS.md says when each comes.
+///
+/// All is worked out, and all memory taken, before the first write.
+pub fn wassail<S: Source, O: Sink, E: Sink>(
+    alloc: Global,
+    words: &[String],
+    source: &mut S,
+    out: &mut O,
+    err: &mut E,
+) -> u8
+    // Any status but 3, 4 and 5 is the answer's, and out and err gained the answer, all of it.
+    ensures answered { result ≢ 3 → result ≢ 4 → result ≢ 5 → Answered (map string_bytes words.now)
+        (S.left source.old) (S.left source.new) (O.held out.old) (O.held out.new) (E.held err.old) (E.held err.new) result }
+
+    // A read failed, and err gained the line that says so.
+    ensures read_fault { result ≡ 3 → ReadFailed (map string_bytes words.now) (S.left source.old) (S.left source.new)
+        (S.faults source.old) (S.faults source.new) (O.held out.old) (O.held out.new) (E.held err.old) (E.held err.new) }
+
+    // A write failed, and out and err gained fronts of what was due.
+    ensures write_fault { result ≡ 4 → (Rose (O.faults out.old) (O.faults out.new) ⊎ Rose (E.faults err.old) (E.faults err.new))
+        × WriteFailed (map string_bytes words.now) (S.left source.old) (S.left source.new) (S.faults source.old) (S.faults source.new)
+        (O.held out.old) (O.held out.new) (E.held err.old) (E.held err.new) }
+
+    // Memory was wanted, and nothing was written.
+    ensures memory { result ≡ 5 → Keeps (O.held out.old) (O.held out.new) × Keeps (E.held err.old) (E.held err.new) }
+
+    // Words that are no command leave the source as it was.
+    ensures untouched { order_of (map string_bytes words.now) ≡ None → source.new ≡ source.old }
+
+    // The words are refused exactly where they are no command, unless a write fails or memory is wanted.
+    ensures words { order_of (map string_bytes words.now) ≡ None → (result ≡ 2) ⊎ (result ≡ 4) ⊎ (result ≡ 5) }
+    ensures words_only { result ≡ 2 → order_of (map string_bytes words.now) ≡ None }
+
+    // Where no count of faults rose, out and err gained the answer, unless memory is wanted.
+    ensures complete { ¬ Rose (S.faults source.old) (S.faults source.new) → ¬ Rose (O.faults out.old) (O.faults out.new)
+        → ¬ Rose (E.faults err.old) (E.faults err.new) → (result ≡ 5) ⊎ Answered (map string_bytes words.now)
+        (S.left source.old) (S.left source.new) (O.held out.old) (O.held out.new) (E.held err.old) (E.held err.new) result }
+
+    // So the word `rewrite`, a small module that isn't too long, and no fault give status 0, unless memory is wanted.
+    ensures rewrites { (bytes : List ℕ) (m : Module) → map string_bytes words.now ≡ codes "rewrite" ∷ []
+        → S.left source.old ≡ Some bytes → length bytes ≤ most_bytes → SpellsSmall bytes m
+        → ¬ Rose (S.faults source.old) (S.faults source.new) → ¬ Rose (O.faults out.old) (O.faults out.new)
+        → ¬ Rose (E.faults err.old) (E.faults err.new) → (result ≡ 0) ⊎ (result ≡ 5) }
+{
+    let Ok(reply) = due(alloc, words, source) else {
+        return Status::NoMemory.code();
+    };
+    match deliver(out, err, &reply) {
+        Ok(()) => reply.status.code(),
+        Err(_) => Status::WriteFailed.code(),
+    }
+}
+
+/// Words and told bytes have one answer, so the clauses of `wassail` say which status it gives and which bytes.
+pub fn law_one_answer()
+    ensures { (words : List (List ℕ)) (bytes : List ℕ) (x y : Option (List ℕ)) (a b : Answer)
+        → Answers words (Some bytes) x a → Answers words (Some bytes) y b → a ≡ b }
+{}
