@@ -6,6 +6,14 @@ use std::test::Fail;
 
 const HEADER: &[u8] = b"\0asm\x01\0\0\0";
 
+// One function `(i32 i32) -> i32` that adds its parameters.
+const ADD: &[u8] =
+    b"\0asm\x01\0\0\0\x01\x07\x01\x60\x02\x7F\x7F\x01\x7F\x03\x02\x01\x00\x0A\x09\x01\x07\x00\x20\x00\x20\x01\x6A\x0B";
+
+// The same, with the size of the type section in five bytes.
+const PADDED: &[u8] =
+    b"\0asm\x01\0\0\0\x01\x87\x80\x80\x80\x00\x01\x60\x02\x7F\x7F\x01\x7F\x03\x02\x01\x00\x0A\x09\x01\x07\x00\x20\x00\x20\x01\x6A\x0B";
+
 // What a call of the program gives.
 #[derive(Debug, Drop, PartialEq, Eq)]
 struct Ending {
@@ -73,6 +81,15 @@ fn expected(
 fn rewrites_the_smallest_module(rt: HostRuntime) -> Result<(), Fail> {
     let got = end(&rt, &["rewrite"], HEADER, NEVER, NEVER)?;
     assert_eq!(rt; got, expected(&rt, 0, 0, HEADER, "")?);
+    Ok(())
+}
+
+#[test]
+fn rewrites_one_function(rt: HostRuntime) -> Result<(), Fail> {
+    for bytes in [ADD, PADDED] {
+        let got = end(&rt, &["rewrite"], bytes, NEVER, NEVER)?;
+        assert_eq!(rt; got, expected(&rt, 0, 0, ADD, "")?);
+    }
     Ok(())
 }
 
