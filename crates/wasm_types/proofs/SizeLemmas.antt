@@ -23,10 +23,10 @@ use Rattle.wasm_types.proofs.LeastLemmas.{canon_lengths}
 
 -- ---- a text is at least as long as what it tells
 
-counted_long : {A : Type 0} (f : A → List ℕ) → ((x : A) → 1 ≤ length (f x)) → (xs : List A) → length xs ≤ length (canon_counted f xs)
+pub counted_long : {A : Type 0} (f : A → List ℕ) → ((x : A) → 1 ≤ length (f x)) → (xs : List A) → length xs ≤ length (canon_counted f xs)
 counted_long f some xs = omega (arith, each_long f some xs, length-append (shortest_u32 (length xs)) (canon_each f xs))
 
-sized_long : (bytes : List ℕ) → length bytes ≤ length (canon_sized bytes)
+pub sized_long : (bytes : List ℕ) → length bytes ≤ length (canon_sized bytes)
 sized_long bytes = omega (arith, length-append (shortest_u32 (length bytes)) bytes)
 
 enclosed_long : (op k : ℕ) (inner rest : List ℕ) → 1 + length inner + length rest ≤ length ((op ∷ k ∷ inner ++ 0x0B ∷ []) ++ rest)
@@ -43,30 +43,30 @@ code_long (block k inner rest) = omega (arith, code_long inner, code_long rest, 
 code_long (repeat k inner rest) = omega (arith, code_long inner, code_long rest, enclosed_long 0x03 (kind_byte k) (canon_code inner) (canon_code rest))
 code_long (branch k first second rest) = omega (arith, code_long first, code_long second, code_long rest, arms_long (kind_byte k) (canon_code first) (canon_code second) (canon_code rest))
 
-instrs_long : (is : List Instr) → positions is ≤ length (canon_instrs is)
+pub instrs_long : (is : List Instr) → positions is ≤ length (canon_instrs is)
 instrs_long is = omega (arith, length-flatten (code_of is), code_long (code_of is), length-append (canon_code (code_of is)) (0x0B ∷ []))
 
-func_type_long : (t : FuncType) → length t.params + length t.results ≤ length (canon_func_type t)
+pub func_type_long : (t : FuncType) → length t.params + length t.results ≤ length (canon_func_type t)
 func_type_long t =
     omega (arith, counted_long canon_type (λ v. omega arith) t.params, counted_long canon_type (λ v. omega arith) t.results, length-append (canon_counted canon_type t.params) (canon_counted canon_type t.results))
 
-import_long : (i : Import) → length i.module.bytes + length i.name.bytes ≤ length (canon_import i)
+pub import_long : (i : Import) → length i.module.bytes + length i.name.bytes ≤ length (canon_import i)
 import_long i = omega (arith, sized_long i.module.bytes, sized_long i.name.bytes, length-append (canon_name i.module) (canon_name i.name ++ canon_import_kind i.kind), length-append (canon_name i.name) (canon_import_kind i.kind))
 
 global_long : (g : GlobalDef) → positions g.init ≤ length (canon_global g)
 global_long g = omega (arith, instrs_long g.init, length-append (canon_global_type g.kind) (canon_instrs g.init))
 
-export_long : (e : Export) → length e.name.bytes ≤ length (canon_export e)
+pub export_long : (e : Export) → length e.name.bytes ≤ length (canon_export e)
 export_long e = omega (arith, sized_long e.name.bytes, length-append (canon_name e.name) (export_byte e.kind ∷ shortest_u32 e.index))
 
-elem_long : (e : Elem) → positions e.offset + length e.funcs ≤ length (canon_elem e)
+pub elem_long : (e : Elem) → positions e.offset + length e.funcs ≤ length (canon_elem e)
 elem_long e =
     omega (arith, instrs_long e.offset, counted_long shortest_u32 some_u32 e.funcs, length-append (shortest_u32 e.table) (canon_instrs e.offset ++ canon_counted shortest_u32 e.funcs), length-append (canon_instrs e.offset) (canon_counted shortest_u32 e.funcs))
 
-entry_long : (b : Body) → length b.locals + positions b.code ≤ length (canon_entry b)
+pub entry_long : (b : Body) → length b.locals + positions b.code ≤ length (canon_entry b)
 entry_long b = omega (arith, sized_long (canon_body b), counted_long canon_run some_run b.locals, instrs_long b.code, length-append (canon_counted canon_run b.locals) (canon_instrs b.code))
 
-segment_long : (d : DataSegment) → positions d.offset + length d.bytes ≤ length (canon_segment d)
+pub segment_long : (d : DataSegment) → positions d.offset + length d.bytes ≤ length (canon_segment d)
 segment_long d = omega (arith, instrs_long d.offset, sized_long d.bytes, length-append (shortest_u32 d.memory) (canon_instrs d.offset ++ canon_sized d.bytes), length-append (canon_instrs d.offset) (canon_sized d.bytes))
 
 -- ---- sections
@@ -74,11 +74,11 @@ segment_long d = omega (arith, instrs_long d.offset, sized_long d.bytes, length-
 section_long : (id : ℕ) (contents : List ℕ) → length contents ≤ length (canon_section id contents)
 section_long id contents = omega (arith, sized_long contents)
 
-list_long : {A : Type 0} (id : ℕ) (f : A → List ℕ) → ((x : A) → 1 ≤ length (f x)) → (xs : List A) → length xs ≤ length (canon_list id f xs)
+pub list_long : {A : Type 0} (id : ℕ) (f : A → List ℕ) → ((x : A) → 1 ≤ length (f x)) → (xs : List A) → length xs ≤ length (canon_list id f xs)
 list_long id f some [] = omega arith
 list_long id f some (x ∷ xs) = omega (arith, counted_long f some (x ∷ xs), section_long id (canon_counted f (x ∷ xs)))
 
-items_long : {A : Type 0} (id : ℕ) (f : A → List ℕ) (xs : List A) → length (canon_each f xs) ≤ length (canon_list id f xs)
+pub items_long : {A : Type 0} (id : ℕ) (f : A → List ℕ) (xs : List A) → length (canon_each f xs) ≤ length (canon_list id f xs)
 items_long id f [] = omega arith
 items_long id f (x ∷ xs) = omega (arith, length-append (shortest_u32 (length (x ∷ xs))) (canon_each f (x ∷ xs)), section_long id (canon_counted f (x ∷ xs)))
 
