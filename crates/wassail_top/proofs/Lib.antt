@@ -1,3 +1,6 @@
+pub mod FrameLemmas
+pub mod ReadingLemmas
+pub mod SmallLemmas
+pub mod DecodeLemmas
 mod Complete
-mod Empty
 mod OneAnswer

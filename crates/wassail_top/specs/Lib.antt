@@ -1,10 +1,13 @@
 pub mod Answers
 pub mod Decodes
-pub mod Empty
+pub mod Encodes
+pub mod Frames
 pub mod Orders
 pub mod Outcome
 pub mod Parses
+pub mod Reading
 pub mod Refusals
 pub mod Reply
+pub mod SmallParts
 pub mod Statuses
 pub mod Words

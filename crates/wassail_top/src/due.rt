@@ -1,6 +1,8 @@
 // What is due on out and err, worked out before anything is written.
-ghost use Rattle.std.specs.Prelude.{◌≡◌, ◌≤◌, None, length, map, IfOk};
+ghost use Rattle.std.specs.Prelude.{◌≡◌, ◌≤◌, ◌<◌, ◌^◌, None, length, map, IfOk};
 ghost use Rattle.std.specs.String.{string_bytes};
+ghost use Rattle.wasm_types.specs.Canon.{canon};
+ghost use Rattle.wasm_types.specs.WellFormed.{IsWellFormed};
 ghost use Rattle.wassail_top.specs.Answers.{IsDue, IsReadDue, AnswersBytes, AnswersModule, most_bytes};
 ghost use Rattle.wassail_top.specs.Orders.{IsReader, order_read};
 ghost use Rattle.wassail_top.specs.Refusals.{refused};
@@ -8,12 +10,12 @@ ghost use Rattle.wassail_top.specs.Reply.{reply_answer};
 ghost use Rattle.wassail_top.specs.Words.{order_of};
 
 use crate::decode::{DecodeEnd, decode};
-use crate::encode::encode;
 use crate::refusal::Refusal;
 use crate::status::Status;
 use crate::words::{Command, WordsEnd, parse_words};
 use outside_io::{ReadEnd, Source, read_all};
 use std::alloc::Global;
+use wasm_encode::encode;
 use wasm_types::{Module, NoMemory};
 
 /// A status, and what out and err get.
@@ -75,6 +77,8 @@ fn answer_bytes(alloc: Global, command: &Command, bytes: &[u8]) -> Result<Reply,
 
 // What a command answers about a module.
 fn answer_module(alloc: Global, command: &Command, form: &Module) -> Result<Reply, NoMemory>
+    requires well_formed { IsWellFormed form.now }
+    requires short { length (canon form.now) < 2 ^ 32 }
     ensures { IfOk result (λ reply. AnswersModule (order_read command.now) form.now (reply_answer reply)) }
 {
     match command {

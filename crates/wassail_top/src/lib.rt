@@ -1,11 +1,13 @@
 //! All that the program does, over any source and sinks.
 #![tactic(auto)]
 
+mod code;
 mod decode;
 mod deliver;
 mod due;
-mod encode;
+mod frames;
 mod refusal;
+mod sections;
 mod status;
 mod top;
 mod words;
