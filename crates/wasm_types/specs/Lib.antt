@@ -2,6 +2,7 @@ pub mod Standing
 pub mod Numbers
 pub mod Parts
 pub mod Code
+pub mod Marked
 pub mod Types
 pub mod Plain
 pub mod Grammar
