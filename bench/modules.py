@@ -1,0 +1,86 @@
+"""Modules to measure with, written byte by byte."""
+
+
+def number(value):
+    """An unsigned number in its shortest spelling."""
+    text = bytearray()
+    while value >= 128:
+        text.append(value % 128 + 128)
+        value //= 128
+    text.append(value)
+    return bytes(text)
+
+
+def sized(contents):
+    return number(len(contents)) + contents
+
+
+def section(identity, contents):
+    return bytes([identity]) + sized(contents)
+
+
+def counted(items):
+    return number(len(items)) + b"".join(items)
+
+
+HEADER = b"\0asm\x01\0\0\0"
+BINARY = b"\x60\x02\x7f\x7f\x01\x7f"
+
+
+def module(bodies):
+    """One type, `(i32 i32) -> i32`, and a function of it for each body (locals and code)."""
+    return (
+        HEADER
+        + section(1, counted([BINARY]))
+        + section(3, counted([b"\0"] * len(bodies)))
+        + section(10, counted([sized(body) for body in bodies]))
+    )
+
+
+def flat(positions):
+    """One function of so many positions, an odd number: a sum of `local.get 0` and constants."""
+    code = bytearray(b"\x20\x00")
+    for place in range((positions - 1) // 2):
+        code += (b"\x41" + bytes([place % 64]) if place % 2 else b"\x20\x01") + b"\x6a"
+    return module([b"\0" + bytes(code) + b"\x0b"])
+
+
+def mixed_body():
+    """A body with blocks, a loop, branches, a load and a store, and numbers of several lengths."""
+    code = bytearray(b"\x01\x03\x7f")
+    code += b"\x02\x40\x03\x40"
+    code += b"\x20\x00\x45\x0d\x01"
+    code += b"\x20\x00\x41\xc8\x01\x6a\x21\x02"
+    code += b"\x20\x02\x20\x01\x41\x80\x80\x80\x01\x71\x6a\x21\x03"
+    code += b"\x20\x01\x20\x03\x36\x02\x00"
+    code += b"\x20\x01\x2d\x00\x08\x21\x04"
+    code += b"\x20\x00\x41\x01\x6b\x21\x00\x0c\x00\x0b\x0b"
+    code += b"\x20\x02\x04\x7f\x20\x03\x05\x20\x04\x0b"
+    return bytes(code) + b"\x0b"
+
+
+def many_functions(size):
+    """Nearly so many bytes, of functions with control, memory and arithmetic."""
+    body = sized(mixed_body())
+    count = max(1, (size - 64) // (len(body) + 1))
+    return (
+        HEADER
+        + section(1, counted([BINARY]))
+        + section(3, counted([b"\0"] * count))
+        + section(5, counted([b"\0\x01"]))
+        + section(10, number(count) + body * count)
+    )
+
+
+def not_a_module(size):
+    """A header, and then what no section begins with."""
+    return HEADER + b"\x7f" * (size - len(HEADER))
+
+
+def one_custom_section(size):
+    """A header and one custom section of zeros, of so many bytes in all."""
+    for length in range(1, 6):
+        contents = size - len(HEADER) - 1 - length
+        if len(number(contents)) == length:
+            return HEADER + section(0, b"\x01x" + b"\0" * (contents - 2))
+    raise ValueError(size)
