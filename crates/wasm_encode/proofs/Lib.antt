@@ -1,2 +1,3 @@
 pub mod CodeLemmas
 pub mod ListLemmas
+pub mod Samples
