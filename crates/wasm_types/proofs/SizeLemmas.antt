@@ -15,8 +15,9 @@ use Rattle.wasm_types.specs.Numbers.{shortest_u32}
 use Rattle.wasm_types.specs.Code.{Code, done, one, block, repeat, branch, code_of, count}
 use Rattle.wasm_types.specs.Types.{kind_byte}
 use Rattle.wasm_types.specs.Sections.{export_byte}
-use Rattle.wasm_types.specs.Canon.{canon_each, canon_counted, canon_sized, canon_plain, else_part, canon_code, canon_instrs, canon_type, canon_func_type, canon_limits, canon_table_type, canon_global_type, canon_name, canon_import_kind, canon_import, canon_global, canon_export, canon_elem, canon_run, canon_body, canon_entry, canon_segment, canon_section, canon_list, canon_names, canon}
-use Rattle.wasm_types.specs.Sizes.{positions, HasAtMost}
+use Rattle.wasm_types.specs.Plain.{Immediates, labels, immediates}
+use Rattle.wasm_types.specs.Canon.{canon_each, canon_counted, canon_sized, canon_immediates, canon_plain, else_part, canon_code, canon_instrs, canon_type, canon_func_type, canon_limits, canon_table_type, canon_global_type, canon_name, canon_import_kind, canon_import, canon_global, canon_export, canon_elem, canon_run, canon_body, canon_entry, canon_segment, canon_section, canon_list, canon_names, canon}
+use Rattle.wasm_types.specs.Sizes.{positions, labels_of, LabelsAtMost, HasAtMost}
 use Rattle.wasm_types.proofs.CodeLemmas.{length-flatten}
 use Rattle.wasm_types.proofs.CanonLemmas.{each_long, some_u32, else_long, some_func_type, some_import, some_table_type, some_limits, some_global, some_export, some_elem, some_run, some_entry, some_segment}
 use Rattle.wasm_types.proofs.LeastLemmas.{canon_lengths}
@@ -42,6 +43,23 @@ code_long (one i rest) = omega (arith, code_long rest, length-append (canon_plai
 code_long (block k inner rest) = omega (arith, code_long inner, code_long rest, enclosed_long 0x02 (kind_byte k) (canon_code inner) (canon_code rest))
 code_long (repeat k inner rest) = omega (arith, code_long inner, code_long rest, enclosed_long 0x03 (kind_byte k) (canon_code inner) (canon_code rest))
 code_long (branch k first second rest) = omega (arith, code_long first, code_long second, code_long rest, arms_long (kind_byte k) (canon_code first) (canon_code second) (canon_code rest))
+
+labels_long : (t : Immediates) → length (labels_of t) ≤ length (canon_immediates t)
+labels_long (labels some other) = omega (arith, counted_long shortest_u32 some_u32 some, length-append (canon_counted shortest_u32 some) (shortest_u32 other))
+labels_long _ = omega arith
+
+code_labels : (most : ℕ) (c : Code) → length (canon_code c) ≤ most → LabelsAtMost most c
+code_labels most done le = tt
+code_labels most (one i rest) le = (omega (arith, labels_long (immediates i), length-append (canon_plain i) (canon_code rest), le), code_labels most rest (omega (arith, length-append (canon_plain i) (canon_code rest), le)))
+code_labels most (block k inner rest) le =
+    let whole = enclosed_long 0x02 (kind_byte k) (canon_code inner) (canon_code rest) in
+    (code_labels most inner (omega (arith, whole, le)), code_labels most rest (omega (arith, whole, le)))
+code_labels most (repeat k inner rest) le =
+    let whole = enclosed_long 0x03 (kind_byte k) (canon_code inner) (canon_code rest) in
+    (code_labels most inner (omega (arith, whole, le)), code_labels most rest (omega (arith, whole, le)))
+code_labels most (branch k first second rest) le =
+    let whole = arms_long (kind_byte k) (canon_code first) (canon_code second) (canon_code rest) in
+    (code_labels most first (omega (arith, whole, le)), code_labels most second (omega (arith, whole, le)), code_labels most rest (omega (arith, whole, le)))
 
 pub instrs_long : (is : List Instr) → positions is ≤ length (canon_instrs is)
 instrs_long is = omega (arith, length-flatten (code_of is), code_long (code_of is), length-append (canon_code (code_of is)) (0x0B ∷ []))
@@ -91,6 +109,22 @@ each_within f size most long (x ∷ xs) le =
 list_within : {A : Type 0} (id : ℕ) (f : A → List ℕ) (size : A → ℕ) (most : ℕ) → ((x : A) → size x ≤ length (f x)) → (xs : List A) → length (canon_list id f xs) ≤ most → All (λ x. size x ≤ most) xs
 list_within id f size most long xs le = each_within f size most long xs (omega (arith, items_long id f xs, le))
 
+body_labels : (most : ℕ) (b : Body) → length (canon_entry b) ≤ most → LabelsAtMost most (code_of b.code)
+body_labels most b le =
+    code_labels most (code_of b.code) (omega (
+      arith,
+      le,
+      sized_long (canon_body b),
+      length-append (canon_counted canon_run b.locals) (canon_instrs b.code),
+      length-append (canon_code (code_of b.code)) (0x0B ∷ []),
+    ))
+
+bodies_labels : (most : ℕ) (bodies : List Body) → length (canon_each canon_entry bodies) ≤ most → All (λ (b : Body). LabelsAtMost most (code_of b.code)) bodies
+bodies_labels most [] le = All-nil (λ (b : Body). LabelsAtMost most (code_of b.code))
+bodies_labels most (b ∷ bs) le =
+    let both = length-append (canon_entry b) (canon_each canon_entry bs) in
+    All-cons (λ (b : Body). LabelsAtMost most (code_of b.code)) b bs (body_labels most b (omega (arith, both, le))) (bodies_labels most bs (omega (arith, both, le)))
+
 names_within : (names : Option (List ℕ)) (most : ℕ) → length (canon_names names) ≤ most → IfSome names (λ (bytes : List ℕ). length bytes ≤ most)
 names_within None most le = tt
 names_within (Some payload) most le = omega (arith, section_long 0 (canon_sized (codes "name") ++ payload), length-append (canon_sized (codes "name")) payload)
@@ -120,6 +154,7 @@ has_at_most m most le =
       exports = list_within 7 canon_export (λ (e : Export). length e.name.bytes) most export_long m.exports (omega (arith, all, le));
       elems = list_within 9 canon_elem (λ (e : Elem). positions e.offset + length e.funcs) most elem_long m.elems (omega (arith, all, le));
       bodies = list_within 10 canon_entry (λ (b : Body). length b.locals + positions b.code) most entry_long m.bodies (omega (arith, all, le));
+      labels = bodies_labels most m.bodies (omega (arith, all, le, items_long 10 canon_entry m.bodies));
       segments = list_within 11 canon_segment (λ (d : DataSegment). positions d.offset + length d.bytes) most segment_long m.segments (omega (arith, all, le));
       names = names_within m.names most (omega (arith, all, le));
     }
