@@ -1,0 +1,4 @@
+pub mod EntryLemmas
+pub mod PartLemmas
+pub mod ShapeLemmas
+pub mod FrameLemmas

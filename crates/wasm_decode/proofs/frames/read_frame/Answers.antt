@@ -1,0 +1,26 @@
+use Rattle.std.proofs.Common.{refl, arith, ◌≤◌, ℕ, List, length, get_or, inl, inr, ◌+◌}
+use Rattle.std.specs.Prelude.{slice_range}
+use Rattle.wasm_types.specs.Standing.{Stands}
+use Rattle.wasm_types.specs.Parts.{Sized}
+use Rattle.wasm_types.specs.Modules.{MayFollow}
+use Rattle.wasm_decode.proofs.FrameLemmas.{frame_stands, no_id, no_contents}
+use Rattle.wasm_decode.proofs.frames.read_frame.Goals as goal
+
+within : {bytes part : List ℕ} {at end : ℕ} → Stands Sized bytes at end part → end ≤ length bytes
+within s = s.within
+
+known : (last id : ℕ) → MayFollow last id → id ≤ 11
+known last id (inl e) = omega (arith, e)
+known last id (inr h) = h.1
+
+pub returns-then-not-may_follow : goal.returns-then-not-may_follow
+returns-then-not-may_follow c = no_id c.args.bytes.now c.args.last c.args.at c.requires (λ h. let t = c.may_follow.ensures.1 h in let f = c.if-not-may_follow.true in absurd cc)
+
+pub returns-in-Some : goal.returns-in-Some
+returns-in-Some c =
+    let s = c.in-Some.ensures.0 in
+    let may = c.may_follow.ensures.0 c.if-not-may_follow.false in
+    (frame_stands c.args.bytes.now c.args.last c.args.at c.in-Some.end _ (slice_range c.args.bytes.now c.in-Some.start c.in-Some.end) c.requires refl may s, (c.in-Some.ensures.1, within s, known c.args.last (get_or c.args.bytes.now c.args.at 0) may))
+
+pub returns-in-None : goal.returns-in-None
+returns-in-None c = no_contents c.args.bytes.now c.args.last c.args.at c.requires c.in-None.ensures

@@ -1,0 +1,12 @@
+//! Modules from bytes (WebAssembly Core Specification 1.0, section 5.5).
+#![tactic(auto)]
+
+mod code;
+mod frames;
+mod list;
+mod production;
+mod refusal;
+mod sections;
+mod types;
+
+pub use refusal::DecodeEnd;
