@@ -1,29 +1,21 @@
 -- The parts of a module, one inside another.
-use Rattle.std.proofs.Common.{◌≡◌, ◌≢◌, ℕ, ◌+◌, ◌-◌, ◌<◌, ◌≤◌, ◌^◌, ◌⊎◌, inl, inr, List, [], ◌∷◌, ◌++◌, length, get_or, take, drop, length-drop, length-append, Option, Some, None, Result, Ok, Err, refl, sym, ap, subst, ◌∙◌, append_assoc, arith}
-use Rattle.std.specs.Prelude.{slice_range, IsUtf8, All}
+use Rattle.std.proofs.Common.{◌≡◌, ℕ, ◌+◌, ◌-◌, ◌<◌, ◌≤◌, ◌^◌, List, ◌∷◌, ◌++◌, length, get_or, take, drop, length-drop, length-append, Option, Some, None, Result, Ok, Err, refl, sym, ap, subst, ◌∙◌, append_assoc, arith}
+use Rattle.std.specs.Prelude.{slice_range, IsUtf8}
 use Rattle.std.proofs.lemmas.List.{take-append-drop, drop-drop, length-take-le}
-use Rattle.wasm_types.specs.declared.module.Limits.{Limits}
 use Rattle.wasm_types.specs.declared.module.LocalRun.{LocalRun}
-use Rattle.wasm_types.specs.declared.module.GlobalType.{GlobalType}
-use Rattle.wasm_types.specs.declared.module.ValType.{ValType}
-use Rattle.wasm_types.specs.declared.module.Name.{Name}
-use Rattle.wasm_types.specs.declared.module.ImportKind.{ImportKind}
 use Rattle.wasm_types.specs.declared.module.ImportKind.TheVariants as import
-use Rattle.wasm_types.specs.declared.instr.Instr.{Instr}
 use Rattle.wasm_types.specs.Standing.{Stands, NoneStands}
 use Rattle.wasm_types.specs.Numbers.{SpellsU32}
 use Rattle.wasm_types.specs.Parts.{Behind, Both, Counted, Sized, Within}
 use Rattle.wasm_types.specs.Types.{SpellsLimits, SpellsTableType, SpellsGlobalType}
-use Rattle.wasm_types.specs.Grammar.{SpellsInstrs}
 use Rattle.wasm_types.specs.Sections.{SpellsName, SpellsImportKind, SpellsRun, local_count}
 use Rattle.wasm_types.proofs.Once.{IsOnce, once_u32, once_counted}
-use Rattle.wasm_types.proofs.SectionLemmas.{once_sized, once_with, once_run}
+use Rattle.wasm_types.proofs.SectionLemmas.{once_sized, once_run}
 use Rattle.wasm_types.proofs.ModuleLemmas.{whole, not_whole, none_whole}
 use Rattle.wasm_types.proofs.StandingLemmas.{next, behind_first, both_stands, none_both_first, none_both_second}
 use Rattle.code_decode.specs.declared.outcome.Stop.{Stop}
 use Rattle.code_decode.specs.declared.outcome.Stop.TheVariants as stop
-use Rattle.wasm_decode.specs.Entries.{IsEntry, ReadsEntry, FirstNot, both_of, SpellsLocals}
-use Rattle.wasm_decode.proofs.EntryLemmas.{all-get}
+use Rattle.wasm_decode.specs.Entries.{IsEntry, ReadsEntry, both_of, SpellsLocals}
 
 -- ---- texts of a stated size
 

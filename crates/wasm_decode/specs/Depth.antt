@@ -1,11 +1,10 @@
 -- How deep blocks nest in the parts of a module (docs/FORMAT.md).
-use Rattle.std.specs.Prelude.{ℕ, ◌≤◌, List, All}
+use Rattle.std.specs.Prelude.{◌≤◌, List}
 use Rattle.wasm_types.specs.declared.instr.Instr.{Instr}
 use Rattle.wasm_types.specs.declared.module.GlobalDef.{GlobalDef}
 use Rattle.wasm_types.specs.declared.module.Elem.{Elem}
 use Rattle.wasm_types.specs.declared.module.Body.{Body}
 use Rattle.wasm_types.specs.declared.module.DataSegment.{DataSegment}
-use Rattle.wasm_types.specs.declared.module.Module.{Module}
 use Rattle.wasm_types.specs.Code.{code_of, nest}
 use Rattle.code_decode.specs.Expr.{nesting_limit}
 
@@ -24,10 +23,3 @@ IsShallowBody b = IsShallow b.code
 
 abbrev pub IsShallowSegment : DataSegment → Type 0
 IsShallowSegment d = IsShallow d.offset
-
--- all code of a module nests within the limit
-pub record NestsWithinLimit (m : Module) : Type 0 where
-  pub globals : All IsShallowGlobal m.globals
-  pub elems : All IsShallowElem m.elems
-  pub bodies : All IsShallowBody m.bodies
-  pub segments : All IsShallowSegment m.segments

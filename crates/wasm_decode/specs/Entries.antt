@@ -1,5 +1,5 @@
 -- What the readers of vectors answer, where an entry may nest blocks too deep.
-use Rattle.std.specs.Prelude.{◌≡◌, ℕ, ◌<◌, ◌≤◌, slice_range, ◌^◌, IsUtf8, List, [], ◌∷◌, ◌++◌, length, All, slice_get, Option, Some, None, Result, Ok, Err}
+use Rattle.std.specs.Prelude.{◌≡◌, ℕ, ◌<◌, ◌≤◌, slice_range, ◌^◌, IsUtf8, List, [], ◌∷◌, ◌++◌, All, slice_get, Option, Some, None, Result, Ok, Err}
 use Rattle.wasm_types.specs.declared.module.LocalRun.{LocalRun}
 use Rattle.wasm_types.specs.Standing.{Stands, NoneStands}
 use Rattle.wasm_types.specs.Sections.{SpellsName, SpellsRun, local_count}

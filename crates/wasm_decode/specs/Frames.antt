@@ -1,5 +1,5 @@
 -- The sections of a module as they stand (WebAssembly Core Specification 1.0, sections 5.5.2 and 5.5.15).
-use Rattle.std.specs.Prelude.{◌≡◌, ◌≢◌, ℕ, ◌+◌, ◌<◌, ◌≤◌, List, length, slice_range, All, ◌^◌, take, map, Option, Some, None, Result, Ok, Err}
+use Rattle.std.specs.Prelude.{◌≡◌, ◌≢◌, ℕ, ◌<◌, ◌≤◌, List, length, slice_range, All, ◌^◌, take, map, Option, Some, None, Result, Ok, Err}
 use Rattle.wasm_types.specs.Standing.{Stands, NoneStands}
 use Rattle.wasm_types.specs.Modules.{header, SpellsFrame, MayFollow, Sections}
 use Rattle.wasm_decode.specs.declared.frames.Frame.{Frame}

@@ -1,3 +1,5 @@
 pub mod Depth
 pub mod Entries
 pub mod Frames
+pub mod Contents
+pub mod Decode

@@ -2,6 +2,8 @@
 #![tactic(auto)]
 
 mod code;
+mod contents;
+mod decoding;
 mod frames;
 mod list;
 mod production;
@@ -9,4 +11,5 @@ mod refusal;
 mod sections;
 mod types;
 
+pub use decoding::decode;
 pub use refusal::DecodeEnd;

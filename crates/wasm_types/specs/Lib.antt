@@ -15,3 +15,4 @@ pub mod Spaces
 pub mod Typing
 pub mod Validity
 pub mod Sizes
+pub mod Subset

@@ -1,4 +1,4 @@
-use Rattle.std.proofs.Common.{refl, arith, ◌≤◌, ℕ, List, length, get_or, inl, inr, ◌+◌}
+use Rattle.std.proofs.Common.{refl, arith, ◌≤◌, ℕ, List, length, get_or, inl, inr}
 use Rattle.std.specs.Prelude.{slice_range}
 use Rattle.wasm_types.specs.Standing.{Stands}
 use Rattle.wasm_types.specs.Parts.{Sized}

@@ -1,4 +1,4 @@
-use Rattle.std.proofs.Common.{◌≡◌, ℕ, ◌+◌, ◌<◌, ◌≤◌, List, [], ◌∷◌, ◌++◌, length, take, ap, sym, subst, ◌∙◌, max, arith, length-append, refl}
+use Rattle.std.proofs.Common.{◌≡◌, ℕ, ◌<◌, ◌≤◌, List, [], ◌∷◌, ◌++◌, length, take, ap, sym, subst, ◌∙◌, max, arith, length-append}
 use Rattle.std.specs.Prelude.{map, All}
 use Rattle.std.proofs.lemmas.List.{length-take}
 use Rattle.wasm_types.specs.Standing.{Stands}
@@ -44,8 +44,7 @@ loop-place-smaller c =
 
 pub returns : goal.returns
 returns c =
-    let end : c.loop-place.place ≡ length c.args.bytes.now = omega (arith, within c.loop-place.invariant.so_far, c.loop-place-test.false) in
-    (
+    let end : c.loop-place.place ≡ length c.args.bytes.now = omega (arith, within c.loop-place.invariant.so_far, c.loop-place-test.false) in (
       record { begun = c.loop-place.invariant.begun; final = c.loop-place.last; framed = subst (λ (n : ℕ). Stands (Sections c.loop-place.last) c.args.bytes.now 8 n (map (frame_at c.args.bytes.now) c.loop-place.frames)) end c.loop-place.invariant.so_far },
       c.loop-place.invariant.all_within,
       omega (arith, c.loop-place.invariant.few, end, c.requires),

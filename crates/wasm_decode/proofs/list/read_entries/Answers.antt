@@ -1,4 +1,4 @@
-use Rattle.std.proofs.Common.{◌+◌, ◌<◌, ◌≡◌, ℕ, arith}
+use Rattle.std.proofs.Common.{arith}
 use Rattle.wasm_decode.proofs.EntryLemmas.{goes_on, goes_back, ends, stops}
 use Rattle.wasm_decode.proofs.list.read_entries.Goals as goal
 

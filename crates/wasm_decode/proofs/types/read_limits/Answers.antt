@@ -1,4 +1,4 @@
-use Rattle.std.proofs.Common.{◌<◌, ◌≡◌, ◌+◌, ℕ, List, None, Some, length, refl, arith}
+use Rattle.std.proofs.Common.{◌+◌, None, Some, refl, arith}
 use Rattle.wasm_types.specs.Numbers.{SpellsU32}
 use Rattle.wasm_types.specs.Parts.{Both}
 use Rattle.wasm_types.specs.Types.{SpellsLimits}

@@ -1,4 +1,3 @@
-use Rattle.std.proofs.Common.{◌≤◌, arith, ℕ, length}
 use Rattle.std.specs.Prelude.{slice_range}
 use Rattle.wasm_decode.proofs.PartLemmas.{framed_none, framed_entry, framed_short, framed_stops}
 use Rattle.wasm_decode.proofs.list.FramedProduction.read.Goals as goal

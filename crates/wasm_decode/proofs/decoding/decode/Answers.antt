@@ -1,0 +1,22 @@
+use Rattle.std.proofs.Common.{◌≡◌, Option, ℕ, List, length, sym, ◌∙◌, subst}
+use Rattle.std.specs.Prelude.{map}
+use Rattle.wasm_decode.specs.declared.frames.Frame.{Frame}
+use Rattle.wasm_decode.specs.Frames.{IsFramed, frame_at}
+use Rattle.wasm_decode.specs.Decode.{IsRead}
+use Rattle.wasm_decode.proofs.StepLemmas.{spells_of}
+use Rattle.wasm_decode.proofs.decoding.decode.Goals as goal
+
+pub returns-in-Some : goal.returns-in-Some
+returns-in-Some c = record {
+  frames = map (frame_at c.args.bytes.now) c.as_slice.result.now;
+  framed = subst (λ (xs : List Frame). IsFramed c.args.bytes.now (map (frame_at c.args.bytes.now) xs)) (sym c.as_slice.ensures) c.in-Ok.ensures.0;
+  spelled = c.in-Ok-read_sections.ensures.0;
+  first = subst (λ (d : Option (ℕ × ℕ)). IsRead (map (frame_at c.args.bytes.now) c.as_slice.result.now) d c.in-Ok-read_sections.module) c.in-Some.is c.in-Ok-read_sections.ensures.1;
+}
+
+pub returns-in-Ok-read_sections : goal.returns-in-Ok-read_sections
+returns-in-Ok-read_sections c =
+    let framed = subst (λ (xs : List Frame). IsFramed c.args.bytes.now (map (frame_at c.args.bytes.now) xs)) (sym c.as_slice.ensures) c.in-Ok.ensures.0 in
+    let r = subst (λ (d : Option (ℕ × ℕ)). IsRead (map (frame_at c.args.bytes.now) c.as_slice.result.now) d c.in-Ok-read_sections.module) c.in-None.is c.in-Ok-read_sections.ensures.1 in
+    let same : length c.in-Ok-read_sections.module.funcs ≡ length c.in-Ok-read_sections.module.bodies = sym c.len.ensures ∙ c.if-len.false ∙ c.len-in-None.ensures in
+    (spells_of c.args.bytes.now (map (frame_at c.args.bytes.now) c.as_slice.result.now) c.in-Ok-read_sections.module framed r.0 same, r.1)
