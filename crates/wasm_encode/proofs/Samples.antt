@@ -1,7 +1,7 @@
 -- The modules of the tests are well formed, and short.
-use Rattle.std.proofs.Common.{◌≡◌, ℕ, zero, suc, ◌+◌, ◌/◌, ◌<◌, ◌≤◌, ◌^◌, inl, inr, false, true, List, [], ◌∷◌, ◌++◌, length, Option, Some, None, refl, sym, ap, subst, ◌∙◌, arith, rules, length-append}
+use Rattle.std.proofs.Common.{◌≡◌, ℕ, zero, suc, ◌+◌, ◌/◌, ◌<◌, ◌≤◌, ◌^◌, inl, inr, false, true, List, [], ◌∷◌, ◌++◌, length, Some, None, refl, sym, ap, subst, ◌∙◌, arith, rules, length-append}
 use Rattle.std.proofs.lemmas.Bool.{cases_lt, lt-ltb, le-ltb}
-use Rattle.std.specs.Prelude.{All, IsUtf8}
+use Rattle.std.specs.Prelude.{All}
 use Rattle.std.proofs.lemmas.Str.{IsUtf8-from_ascii}
 use Rattle.std.proofs.lemmas.List.Elements.{All-nil, All-cons}
 use Rattle.wasm_types.specs.declared.ops.Width.TheVariants.{W32}
@@ -22,10 +22,10 @@ use Rattle.wasm_types.specs.declared.module.DataSegment.{DataSegment}
 use Rattle.wasm_types.specs.declared.module.Module.{Module}
 use Rattle.wasm_types.specs.declared.instr.Instr.{Instr, Nop, I32Const, LocalGet, Num}
 use Rattle.wasm_types.specs.declared.instr.Instr.TheVariants.{If}
-use Rattle.wasm_types.specs.Code.{Code, done, one, branch, onto, code_of_row, code_of}
+use Rattle.wasm_types.specs.Code.{done, one, branch, onto, code_of_row, code_of}
 use Rattle.wasm_types.specs.Numbers.{shortest_unsigned, shortest_signed, shortest_u32}
 use Rattle.wasm_types.specs.Canon.{canon_counted, canon_func_type, canon_limits, canon_table_type, canon_import, canon_global, canon_export, canon_elem, canon_entry, canon_segment, canon_list, canon_start, canon_names, canon}
-use Rattle.wasm_types.specs.WellFormed.{IsU8, IsU32, ProperCode, ProperLimits, ProperName, ProperImport, ProperGlobal, ProperExport, ProperElem, ProperBody, ProperSegment, IsWellFormed}
+use Rattle.wasm_types.specs.WellFormed.{IsU8, IsU32, ProperCode, ProperLimits, ProperImport, ProperGlobal, ProperExport, ProperElem, ProperBody, ProperSegment, IsWellFormed}
 use Rattle.wasm_types.proofs.CodeLemmas.{onto-if}
 use Rattle.wasm_types.proofs.LeastLemmas.{canon_lengths}
 
