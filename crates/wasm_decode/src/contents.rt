@@ -73,8 +73,8 @@ fn read_start(text: &[u8]) -> Option<u32>
     ensures { MatchOption result ((n : ℕ) → SpellsU32 text.now n → ⊥) (λ n. SpellsU32 text.now n) }
 {
     match read_u32(text, 0) {
-        Some((func, end)) => {
-            if end < text.len() {
+        Some((func, after)) => {
+            if after < text.len() {
                 return None;
             }
             Some(func)

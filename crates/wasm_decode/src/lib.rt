@@ -5,11 +5,15 @@ mod code;
 mod contents;
 mod decoding;
 mod frames;
+mod laws;
 mod list;
 mod production;
 mod refusal;
 mod sections;
+#[cfg(test)]
+mod tests;
 mod types;
 
 pub use decoding::decode;
+pub use laws::law_refused;
 pub use refusal::DecodeEnd;
