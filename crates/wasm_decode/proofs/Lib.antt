@@ -4,4 +4,4 @@ pub mod ShapeLemmas
 pub mod FrameLemmas
 pub mod ContentsLemmas
 pub mod StepLemmas
-pub mod ExactLemmas
+pub mod OneLemmas

@@ -1,15 +1,12 @@
-//! What a refusal means.
+//! Laws of decoding.
 
-ghost use Rattle.std.specs.Prelude.{◌≢◌, List, ℕ, Err};
-ghost use Rattle.wasm_types.specs.declared.module.Module.{Module};
-ghost use Rattle.wasm_types.specs.Modules.{Spells};
-ghost use Rattle.wasm_types.specs.Subset.{NestsAtMost};
-ghost use Rattle.code_decode.specs.Expr.{nesting_limit};
+ghost use Rattle.std.specs.Prelude.{◌≡◌, ◌≢◌, Err, List, Result, ℕ};
+ghost use Rattle.wasm_decode.specs.Decode.{Decodes};
 ghost use Rattle.wasm_decode.specs.declared.refusal.DecodeEnd.{DecodeEnd};
 ghost use Rattle.wasm_decode.specs.declared.refusal.DecodeEnd.TheVariants as end;
-ghost use Rattle.wasm_decode.specs.Decode.{Decodes};
+ghost use Rattle.wasm_types.specs.declared.module.Module.{Module};
 
-/// Where bytes are refused for another cause than memory, they spell no module that nests within the limit.
-pub fn law_refused()
-    ensures { (bytes : List ℕ) (refusal : DecodeEnd) (m : Module) → refusal ≢ end.Memory → Decodes bytes (Err refusal) → Spells bytes m → NestsAtMost nesting_limit m → ⊥ }
+/// Bytes have one answer: one module or one refusal, unless memory is refused.
+pub fn law_one_answer()
+    ensures { (bytes : List ℕ) (r s : Result Module DecodeEnd) → Decodes bytes r → Decodes bytes s → r ≢ Err end.Memory → s ≢ Err end.Memory → r ≡ s }
 {}

@@ -15,5 +15,5 @@ mod tests;
 mod types;
 
 pub use decoding::decode;
-pub use laws::law_refused;
+pub use laws::law_one_answer;
 pub use refusal::DecodeEnd;
