@@ -1,0 +1,5 @@
+pub mod Labels
+pub mod Locals
+pub mod Numbered
+pub mod Signatures
+pub mod Stacks
