@@ -21,7 +21,8 @@ use Rattle.wasm_types.specs.Small.{IsSmallCode}
 use Rattle.wasm_types.specs.Spaces.{imported, func_import, import_count, run_types, local_types}
 use Rattle.wasm_types.specs.Validity.{IsValidBody}
 use Rattle.wasm_types.specs.declared.place.Part.TheVariants as part
-use Rattle.wassail_top.specs.Sliced.{all_i32, IsSliced, appended, cut_of, watched_code, result_type, func_count, IsFlat}
+use Rattle.wassail_top.specs.Flat.{IsFlat}
+use Rattle.wassail_top.specs.Sliced.{all_i32, IsSliced, appended, cut_of, watched_code, result_type, func_count}
 use Rattle.wassail_top.proofs.Straight.{Straight, straight_of, straight_cut, code_back, by_kind, run_same, one_watched}
 use Rattle.wasm_types.specs.declared.module.FuncType.{FuncType}
 use Rattle.wasm_types.specs.declared.module.Body.{Body}
@@ -31,7 +32,7 @@ use Rattle.wasm_types.specs.declared.module.Name.{Name}
 use Rattle.std.proofs.lemmas.Option.{slice_get_within}
 use Rattle.std.specs.Option.{IfSome}
 use Rattle.std.specs.Prelude.{map}
-use Rattle.wassail_top.proofs.Flat.{type_is, body_is, shaped_by, small_body}
+use Rattle.wassail_top.proofs.FlatCode.{type_is, body_is, shaped_by, small_body}
 use Rattle.wassail_top.proofs.KeptLaws.{closed}
 
 some_func : (a b : Func) → Some a ≡ Some b → a ≡ b
@@ -94,7 +95,7 @@ module _ (m : Module) (flat : IsFlat m) (f i : ℕ) (name : Name) (new : Module)
 
   -- f's number among the module's own functions is f itself
   own_number : f - import_count m ≡ f
-  own_number = let e : import_count m ≡ 0 = ap (λ z. length (imported func_import z)) flat.no_imports in omega arith
+  own_number = let e : import_count m ≡ 0 = ap (λ z. length (imported func_import z)) flat.only.no_imports in omega arith
 
   own_type : slice_get m.funcs f ≡ Some sl.type
   own_type = subst (λ z. slice_get m.funcs z ≡ Some sl.type) own_number sl.own.1
@@ -103,20 +104,20 @@ module _ (m : Module) (flat : IsFlat m) (f i : ℕ) (name : Name) (new : Module)
   own_body = subst (λ z. slice_get m.bodies z ≡ Some sl.body) own_number sl.has_body.1
 
   func_before : func_of m f ≡ Some F0
-  func_before = func_is m f sl.type sl.kind sl.body flat.no_imports (slice_get_within m.funcs f sl.type own_type) own_type sl.kind_is own_body
+  func_before = func_is m f sl.type sl.kind sl.body flat.only.no_imports (slice_get_within m.funcs f sl.type own_type) own_type sl.kind_is own_body
 
   func_after : func_of m1 (func_count m) ≡ Some F1
   func_after =
-      let count : func_count m ≡ length m.funcs = ap (λ z. length (imported func_import z ++ m.funcs)) flat.no_imports in
+      let count : func_count m ≡ length m.funcs = ap (λ z. length (imported func_import z ++ m.funcs)) flat.only.no_imports in
       let same = flat.valid.0.same in
       let more = length-append m.funcs (sl.type ∷ []) in
-      func_is m1 (func_count m) sl.type sl.kind body1 flat.no_imports (omega arith) (get_last m.funcs (func_count m) sl.type count) sl.kind_is (get_last m.bodies (func_count m) body1 (omega arith))
+      func_is m1 (func_count m) sl.type sl.kind body1 flat.only.no_imports (omega arith) (get_last m.funcs (func_count m) sl.type count) sl.kind_is (get_last m.bodies (func_count m) body1 (omega arith))
 
   few_results : length sl.kind.results ≤ 1
   few_results = subst (λ z. IfSome z (λ (t : FuncType). length t.results ≤ 1)) sl.kind_is (flat.valid.1 (part.TypeAt sl.type))
 
   typed : IsValidBody m sl.kind sl.body
-  typed = flat.valid.1 (part.FuncAt f) sl.kind sl.body (type_is m f sl.type sl.kind flat.no_imports own_type sl.kind_is) sl.has_body
+  typed = flat.valid.1 (part.FuncAt f) sl.kind sl.body (type_is m f sl.type sl.kind flat.only.no_imports own_type sl.kind_is) sl.has_body
 
   arity_is : arity t ≡ length sl.kind.results
   arity_is = arity_of sl.kind.results few_results

@@ -13,11 +13,22 @@ pub mod BridgeCut
 pub mod CutLaw
 pub mod Marks
 pub mod Straight
-pub mod Flat
+pub mod FlatCode
+pub mod HeightLemmas
+pub mod ExportLemmas
+pub mod FlatLemmas
 pub mod Follows
-pub mod FrameLemmas
-pub mod ReadingLemmas
-pub mod SmallLemmas
-pub mod DecodeLemmas
+pub mod FlatKept
+pub mod FlatCut
+pub mod FlatSlice
+pub mod FlatTyping
+pub mod SlicedValid
+pub mod SlicedSize
+pub mod SlicedLaws
+mod NamedSlice
+mod OneDecoding
 mod Complete
+mod Calm
+mod HeadlineLemmas
+mod OneSlice
 mod OneAnswer

@@ -6,20 +6,23 @@ use Rattle.wasm_types.specs.declared.module.Module.{Module}
 use Rattle.wasm_types.proofs.ModuleLemmas.{one_module}
 use Rattle.wassail_top.specs.Answers.{Answers, AnswersOrder, AnswersRead, AnswersBytes, AnswersModule, most_bytes}
 use Rattle.wassail_top.specs.Orders.{Order}
-use Rattle.wassail_top.specs.Orders.Order.{rewrite}
-use Rattle.wassail_top.specs.Refusals.{Answer}
+use Rattle.wassail_top.specs.Orders.Order.{rewrite, slice}
+use Rattle.wassail_top.specs.Refusals.{Answer, refused}
 use Rattle.wassail_top.specs.Words.{order_of}
 use Rattle.wassail_top.proofs.Complete.{not_more, all_taken}
+use Rattle.wassail_top.proofs.OneDecoding.{no_refusal, one_refusal}
+use Rattle.wassail_top.proofs.OneSlice.{one_slice}
 
 of_module : (order : Order) (m : Module) (a b : Answer) → AnswersModule order m a → AnswersModule order m b → a ≡ b
 of_module rewrite m a b p q = p ∙ sym q
+of_module (slice func at name) m a b p q = one_slice func at name m a b p q
 
 of_bytes : (order : Order) (bytes : List ℕ) (a b : Answer) → AnswersBytes order bytes a → AnswersBytes order bytes b → a ≡ b
-of_bytes order bytes a b (inl p) (inl q) = p.1 ∙ sym q.1
-of_bytes order bytes a b (inl p) (inr q) = absurd (p.0 q.0 q.1)
-of_bytes order bytes a b (inr p) (inl q) = absurd (q.0 p.0 p.1)
+of_bytes order bytes a b (inl p) (inl q) = p.4 ∙ ap refused (one_refusal bytes p.0 q.0 p.1 q.1 p.2 q.2 p.3 q.3) ∙ sym q.4
+of_bytes order bytes a b (inl p) (inr q) = absurd (no_refusal bytes q.0 p.0 p.1 q.1 p.2 p.3)
+of_bytes order bytes a b (inr p) (inl q) = absurd (no_refusal bytes p.0 q.0 q.1 p.1 q.2 q.3)
 of_bytes order bytes a b (inr p) (inr q) =
-    of_module order p.0 a b p.2 (subst (λ m. AnswersModule order m b) (sym (one_module bytes p.0 q.0 p.1.spelled q.1.spelled)) q.2)
+    of_module order p.0 a b p.2 (subst (λ m. AnswersModule order m b) (sym (one_module bytes p.0 q.0 p.1.0 q.1.0)) q.2)
 
 -- more than the limit was taken, and all that there was is within it
 long_and_short : {A : Type 0} (bytes : List ℕ) (x y : Option (List ℕ)) (all : List ℕ)
@@ -42,6 +45,7 @@ of_read order bytes x y a b (inr p) (inr q) =
 of_order : (order : Order) (bytes : List ℕ) (x y : Option (List ℕ)) (a b : Answer)
     → AnswersOrder order (Some bytes) x a → AnswersOrder order (Some bytes) y b → a ≡ b
 of_order rewrite bytes x y a b p q = of_read rewrite bytes x y a b p q
+of_order (slice func at name) bytes x y a b p q = of_read (slice func at name) bytes x y a b p q
 
 pub one_answer : (words : List (List ℕ)) (bytes : List ℕ) (x y : Option (List ℕ)) (a b : Answer)
     → Answers words (Some bytes) x a → Answers words (Some bytes) y b → a ≡ b

@@ -1,8 +1,7 @@
 -- A flat module with the sum of two parameters, and its slices at the first and the second instruction: so the laws of slices speak of something.
-use Rattle.std.proofs.Common.{◌≡◌, ◌≢◌, ℕ, zero, suc, ◌+◌, ◌-◌, ◌<◌, ◌≤◌, inl, inr, List, [], ◌∷◌, ◌++◌, Bool, true, false, Option, Some, None, nat_eq, length, slice_get, refl, sym, ap, ◌∙◌, subst, arith, true≢false}
-use Rattle.std.specs.Prelude.{All, IfSome, IsUtf8}
+use Rattle.std.proofs.Common.{◌≡◌, ℕ, zero, suc, ◌+◌, ◌-◌, ◌<◌, ◌≤◌, inl, inr, List, [], ◌∷◌, Bool, true, false, Option, Some, None, nat_eq, length, slice_get, refl, sym, ap, ◌∙◌, subst, arith, true≢false}
+use Rattle.std.specs.Prelude.{IfSome}
 use Rattle.std.proofs.lemmas.List.Elements.{All-nil, All-cons}
-use Rattle.wasm_types.specs.declared.module.ValType.{ValType}
 use Rattle.wasm_types.specs.declared.module.ValType.TheVariants.{I32}
 use Rattle.wasm_types.specs.declared.module.FuncType.{FuncType}
 use Rattle.wasm_types.specs.declared.module.Name.{Name}
@@ -10,23 +9,28 @@ use Rattle.wasm_types.specs.declared.module.Body.{Body}
 use Rattle.wasm_types.specs.declared.module.Module.{Module}
 use Rattle.wasm_types.specs.declared.place.Part.{Part}
 use Rattle.wasm_types.specs.declared.place.Part.TheVariants as part
+use Rattle.wasm_types.specs.declared.place.LimitKind.TheVariants as limit
 use Rattle.wasm_types.specs.declared.ops.NumOp.TheVariants.{Bin}
 use Rattle.wasm_types.specs.declared.ops.Width.TheVariants.{W32}
 use Rattle.wasm_types.specs.declared.ops.BinOp.TheVariants.{Add}
 use Rattle.wasm_types.specs.declared.instr.Instr.{Instr, LocalGet, Drop, I32Const, Num}
-use Rattle.wasm_types.specs.Code.{code_of, list_of, onto, code_of_row}
-use Rattle.wasm_types.specs.Marked.{Marked, marked, unmarked, watched_at}
-use Rattle.wasm_types.specs.Small.{IsSmall, IsSmallType, IsSmallBody, IsI32}
+use Rattle.wasm_types.specs.Code.{list_of, onto, code_of_row}
+use Rattle.wasm_types.specs.Sections.{local_count}
+use Rattle.wasm_types.specs.Marked.{Marked, unmarked, watched_at}
+use Rattle.wasm_types.specs.Small.{IsSmallType, IsSmallBody, IsI32}
 use Rattle.wasm_types.specs.WellFormed.{IsU32, ProperBody, IsWellFormed}
+use Rattle.wasm_types.specs.Sizes.{positions}
 use Rattle.wasm_types.specs.Spaces.{type_of_func, HasBody}
+use Rattle.wasm_types.specs.Subset.{WithinLimits, most_read}
 use Rattle.wasm_types.specs.Validity.{IsValid, IsValidBody, Holds}
 use Rattle.wasm_meaning.specs.Locations.{Loc}
-use Rattle.wasm_meaning.specs.Actions.{Callees, callees}
-use Rattle.wassail_top.specs.Nodes.{Node, At, Join, Exit, every}
+use Rattle.wasm_meaning.specs.Actions.{callees}
+use Rattle.wassail_top.specs.Nodes.{Node, At, Join, Exit}
 use Rattle.wassail_top.specs.Sites.{Head, DoHead, BlockHead, LoopHead, IfHead, BrHead, BrIfHead, BrTableHead, ReturnHead, UnreachableHead, Site, Sites, IsSite, Branches, EndAt, writes_at, Writes, writes_it, body_sites, body_ends}
 use Rattle.wassail_top.specs.Kept.{InShadow, arm_at, arm_join, if_join, later_at, later_join, around_join, loop_at, loop_join, Among, Kept, criterion, NamesIn, IsClosed, Tells}
-use Rattle.wassail_top.specs.Cut.{cut_body}
-use Rattle.wassail_top.specs.Sliced.{IsFlat, IsSliced, appended, cut_of, watched_code, KeptAt}
+use Rattle.wassail_top.specs.Flat.{IsFlat}
+use Rattle.wassail_top.specs.Sliced.{IsSliced, appended, cut_of, watched_code, KeptAt}
+use Rattle.wassail_top.proofs.FlatSlice.{all_at}
 use Rattle.wassail_top.proofs.KeptLaws.{least}
 
 -- ---- the module
@@ -135,20 +139,26 @@ valid = (well_formed, holds)
     holds (part.ElemAt k) = tt
     holds (part.DataAt k) = tt
 
+limits : WithinLimits most_read adder
+unfolding sum onto code_of_row
+limits limit.Functions k n c = let e = c.1 in omega arith
+limits limit.Params k n (t, is, e) =
+    let few = all_at (λ (t : FuncType). length t.params ≤ 64) adder.types k t (All-cons (λ (t : FuncType). length t.params ≤ 64) two_to_one [] (omega arith) (All-nil _)) is in omega arith
+limits limit.Globals k n c = let e = c.1 in omega arith
+limits limit.TableSize k n (l, is, e) = absurd (grind arith)
+limits limit.Locals k n (b, own, e) =
+    let few = all_at (λ (b : Body). local_count b.locals ≤ 8192) adder.bodies (k - 0) b (All-cons (λ (b : Body). local_count b.locals ≤ 8192) (body_with sum) [] (omega arith) (All-nil _)) own.1 in omega arith
+limits limit.Positions k n (b, own, e) =
+    let few = all_at (λ (b : Body). positions b.code ≤ 100000) adder.bodies (k - 0) b (All-cons (λ (b : Body). positions b.code ≤ 100000) (body_with sum) [] (omega arith) (All-nil _)) own.1 in omega arith
+
 flat : IsFlat adder
 unfolding sum onto code_of_row
 flat = record {
   valid = valid;
+  limits = limits;
   small = (All-cons IsSmallType two_to_one [] (All-cons IsI32 I32 (I32 ∷ []) refl (All-cons IsI32 I32 [] refl (All-nil IsI32)), All-cons IsI32 I32 [] refl (All-nil IsI32)) (All-nil IsSmallType), All-cons IsSmallBody (body_with sum) [] (All-nil _, (tt, (tt, (tt, tt)))) (All-nil IsSmallBody));
-  no_imports = refl;
-  no_tables = refl;
-  no_memories = refl;
-  no_globals = refl;
+  only = record { no_imports = refl; no_tables = refl; no_memories = refl; no_globals = refl; no_start = refl; no_elements = refl; no_data = refl; no_names = refl };
   of_functions = All-nil _;
-  no_start = refl;
-  no_elements = refl;
-  no_data = refl;
-  no_names = refl;
 }
 
 -- ---- the kept set of the first instruction is that instruction alone

@@ -1,16 +1,23 @@
 -- What the program answers, by its words and by what its source has left (docs/COMMANDS.md).
-use Rattle.std.specs.Prelude.{◌≡◌, ◌⊎◌, ℕ, ◌+◌, ◌≤◌, List, [], length, None, Some}
+use Rattle.std.specs.Prelude.{◌≡◌, ◌⊎◌, ℕ, ◌+◌, ◌≤◌, List, [], ◌∷◌, codes, decimal, length, None, Some, Ok, Err}
 use Rattle.std.specs.declared.option.Option.{Option}
 use Rattle.outside_io.specs.Causes.{Rose}
 use Rattle.outside_io.specs.Whole.{Took, TookAll, TookAtMost}
 use Rattle.wasm_types.specs.declared.module.Module.{Module}
+use Rattle.wasm_types.specs.declared.module.Name.{Name}
 use Rattle.wasm_types.specs.Canon.{canon}
-use Rattle.wasm_types.specs.Small.{SpellsSmall}
+use Rattle.wasm_types.specs.WellFormed.{ProperName}
+use Rattle.wasm_decode.specs.declared.refusal.DecodeEnd.{DecodeEnd}
+use Rattle.wasm_decode.specs.Decode.{Decodes}
+use Rattle.wassail_top.specs.declared.refusal.Refusal.{Refusal}
 use Rattle.wassail_top.specs.declared.refusal.Refusal.TheVariants.{Words, TooLong, Unbuilt, ReadFault}
-use Rattle.wassail_top.specs.Decodes.{IsUnbuilt}
-use Rattle.wassail_top.specs.Orders.{Order, IsReader}
-use Rattle.wassail_top.specs.Orders.Order.{rewrite}
-use Rattle.wassail_top.specs.Refusals.{Answer, refused}
+use Rattle.wassail_top.specs.declared.slice.SliceRefusal.{SliceRefusal}
+use Rattle.wassail_top.specs.Flat.{IsFlat}
+use Rattle.wassail_top.specs.Sliced.{func_count, IsSliced}
+use Rattle.wassail_top.specs.Slices.{HasExport, Refuses}
+use Rattle.wassail_top.specs.Orders.{Order, IsReader, most_name_bytes}
+use Rattle.wassail_top.specs.Orders.Order.{rewrite, slice}
+use Rattle.wassail_top.specs.Refusals.{Answer, line_of, refused, told_as, slice_told_as}
 use Rattle.wassail_top.specs.Words.{order_of}
 
 -- the greatest number of bytes that a module may have
@@ -21,15 +28,44 @@ most_bytes = 8388608
 abbrev pub bytes_alone : List ℕ → Answer
 bytes_alone bytes = record { status = 0; out = bytes; err = [] }
 
+-- the sliced module on out; on err the number of the new function, and where the instruction went
+abbrev pub slice_answer : Module → ℕ → ℕ → Answer
+slice_answer new func at = record { status = 0; out = canon new; err = line_of (codes "function " ∷ decimal func ∷ codes " instruction " ∷ decimal at ∷ []) }
+
+-- a name, by its bytes
+abbrev pub name_of : List ℕ → Name
+name_of bytes = record { bytes = bytes }
+
+-- the module is sliced, under a name that no export of it has
+pub record IsSlicedAs (m : Module) (f i : ℕ) (name : List ℕ) (answer : Answer) : Type 0 where
+  pub new : Module
+  pub at : ℕ
+  pub sliced : IsSliced m f i (name_of name) new at
+  pub proper : ProperName (name_of name)
+  pub free : HasExport m.exports name → ⊥
+  pub short : length name ≤ most_name_bytes
+  pub told : answer ≡ slice_answer new (func_count m) at
+
+-- what `slice` answers about a flat module: the first refusal that holds, or the slice
+abbrev pub AnswersFlat : ℕ → ℕ → List ℕ → Module → Answer → Type 0
+AnswersFlat f i name m answer =
+    ((cause : SliceRefusal) × (refusal : Refusal) × Refuses m f i name cause × (slice_told_as f i cause ≡ Some refusal) × (answer ≡ refused refusal))
+    ⊎ IsSlicedAs m f i name answer
+
+-- what `slice` answers about a module
+abbrev pub AnswersSlice : ℕ → ℕ → List ℕ → Module → Answer → Type 0
+AnswersSlice f i name m answer = ((IsFlat m → ⊥) × (answer ≡ refused Unbuilt)) ⊎ (IsFlat m × AnswersFlat f i name m answer)
+
 -- what a command answers about a module
 abbrev pub AnswersModule : Order → Module → Answer → Type 0
 AnswersModule rewrite m answer = answer ≡ bytes_alone (canon m)
+AnswersModule (slice func at name) m answer = AnswersSlice func at name m answer
 
 -- what a command answers about the bytes that it has read
 abbrev pub AnswersBytes : Order → List ℕ → Answer → Type 0
 AnswersBytes order bytes answer =
-    (IsUnbuilt bytes × (answer ≡ refused Unbuilt))
-    ⊎ ((m : Module) × SpellsSmall bytes m × AnswersModule order m answer)
+    ((end : DecodeEnd) × (refusal : Refusal) × Decodes bytes (Err end) × (told_as end ≡ Some refusal) × (answer ≡ refused refusal))
+    ⊎ ((m : Module) × Decodes bytes (Ok m) × AnswersModule order m answer)
 
 -- what a command that reads answers, by what the source had left and what it has left now
 abbrev pub AnswersRead : Order → Option (List ℕ) → Option (List ℕ) → Answer → Type 0
@@ -40,6 +76,7 @@ AnswersRead order old new answer =
 -- what a command answers
 abbrev pub AnswersOrder : Order → Option (List ℕ) → Option (List ℕ) → Answer → Type 0
 AnswersOrder rewrite old new answer = AnswersRead rewrite old new answer
+AnswersOrder (slice func at name) old new answer = AnswersRead (slice func at name) old new answer
 
 -- what the program answers where nothing fails
 abbrev pub Answers : List (List ℕ) → Option (List ℕ) → Option (List ℕ) → Answer → Type 0

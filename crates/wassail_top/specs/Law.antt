@@ -1,5 +1,5 @@
 -- What is proved of kept sets and of slices.
-use Rattle.std.specs.Prelude.{◌≡◌, ℕ, ◌≤◌, List, [], ◌∷◌, Bool, true, Some}
+use Rattle.std.specs.Prelude.{◌≡◌, ℕ, ◌≤◌, List, Bool, true, Some}
 use Rattle.wasm_types.specs.declared.module.FuncType.{FuncType}
 use Rattle.wasm_types.specs.declared.module.Name.{Name}
 use Rattle.wasm_types.specs.declared.module.Module.{Module}
@@ -12,7 +12,8 @@ use Rattle.wasm_meaning.specs.Invoke.{Returns}
 use Rattle.wassail_top.specs.Nodes.{Node}
 use Rattle.wassail_top.specs.Sites.{Sites, EndAt}
 use Rattle.wassail_top.specs.Kept.{Kept, IsClosed, Tells}
-use Rattle.wassail_top.specs.Sliced.{IsFlat, func_count, IsSliced}
+use Rattle.wassail_top.specs.Flat.{IsFlat}
+use Rattle.wassail_top.specs.Sliced.{func_count, IsSliced}
 
 -- the kept set lies in every closed set
 abbrev pub KeptIsLeast : Type 0

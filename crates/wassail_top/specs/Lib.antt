@@ -1,8 +1,6 @@
 pub mod Answers
 pub mod Cut
-pub mod Decodes
-pub mod Encodes
-pub mod Frames
+pub mod Flat
 pub mod Kept
 pub mod Labels
 pub mod Law
@@ -10,11 +8,12 @@ pub mod Nodes
 pub mod Orders
 pub mod Outcome
 pub mod Parses
-pub mod Reading
 pub mod Refusals
 pub mod Reply
 pub mod Sites
 pub mod Sliced
-pub mod SmallParts
 pub mod Statuses
 pub mod Words
+pub mod Slices
+pub mod SliceLaws
+pub mod Headline

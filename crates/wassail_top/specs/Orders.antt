@@ -1,14 +1,27 @@
--- A command without where its texts and lists lie in memory.
-use Rattle.std.specs.Prelude.{⊤}
+-- A command without where its texts lie in memory.
+use Rattle.std.specs.Prelude.{ℕ, ◌≤◌, List, length, ⊤}
+use Rattle.std.specs.String.{string_bytes}
 use Rattle.wassail_top.specs.declared.words.Command.{Command}
-use Rattle.wassail_top.specs.declared.words.Command.TheVariants.{Rewrite}
+use Rattle.wassail_top.specs.declared.words.Command.TheVariants.{Rewrite, Slice}
 
 pub data Order : Type 0 where
   rewrite : Order
+  slice : (func at : ℕ) (name : List ℕ) → Order
 
 abbrev pub order_read : Command → Order
 order_read Rewrite = rewrite
+order_read (Slice func at name) = slice func at (string_bytes name)
 
 -- the command reads a module
 abbrev pub IsReader : Order → Type 0
 IsReader rewrite = ⊤
+IsReader (slice func at name) = ⊤
+
+-- the greatest number of bytes of a name
+abbrev pub most_name_bytes : ℕ
+most_name_bytes = 65536
+
+-- the name that is asked for isn't too long
+abbrev pub HasShortName : Order → Type 0
+HasShortName rewrite = ⊤
+HasShortName (slice func at name) = length name ≤ most_name_bytes

@@ -1,37 +1,20 @@
--- Flat modules, and the sliced module of a function, an instruction and a name (docs/ANALYSES.md, "Flat modules", "The sliced module").
-use Rattle.std.specs.Prelude.{◌≡◌, ℕ, ◌+◌, ◌<◌, [], ◌∷◌, ◌++◌, length, All, Option, Some, None, Bool, slice_get, nat_eq}
+-- The sliced module of a function of a flat module, an instruction and a name (docs/ANALYSES.md, "The sliced module").
+use Rattle.std.specs.Prelude.{◌≡◌, ℕ, ◌<◌, [], ◌∷◌, ◌++◌, length, Option, Some, Bool, slice_get, nat_eq}
 use Rattle.wasm_types.specs.declared.module.ValType.{ValType}
 use Rattle.wasm_types.specs.declared.module.ValType.TheVariants as type
 use Rattle.wasm_types.specs.declared.module.FuncType.{FuncType}
 use Rattle.wasm_types.specs.declared.module.Name.{Name}
 use Rattle.wasm_types.specs.declared.module.ExportKind.TheVariants as export
-use Rattle.wasm_types.specs.declared.module.Export.{Export}
 use Rattle.wasm_types.specs.declared.module.Body.{Body}
 use Rattle.wasm_types.specs.declared.module.Module.{Module}
 use Rattle.wasm_types.specs.Code.{code_of, list_of, count}
 use Rattle.wasm_types.specs.Marked.{Marked, marked, unmarked, watched_at}
-use Rattle.wasm_types.specs.Small.{IsSmall}
 use Rattle.wasm_types.specs.Spaces.{func_types, IsOwnFunc, HasBody}
-use Rattle.wasm_types.specs.Validity.{IsValid}
 use Rattle.wasm_meaning.specs.Actions.{Callees, callees}
 use Rattle.wassail_top.specs.Nodes.{Node, every}
 use Rattle.wassail_top.specs.Sites.{body_sites, body_ends}
 use Rattle.wassail_top.specs.Kept.{Kept, Tells}
 use Rattle.wassail_top.specs.Cut.{cut_body}
-
--- A flat module: a valid small module that may have exports of functions besides.
-pub record IsFlat (m : Module) : Type 0 where
-  pub valid : IsValid m
-  pub small : IsSmall m
-  pub no_imports : m.imports ≡ []
-  pub no_tables : m.tables ≡ []
-  pub no_memories : m.mems ≡ []
-  pub no_globals : m.globals ≡ []
-  pub of_functions : All (λ (e : Export). e.kind ≡ export.Func) m.exports
-  pub no_start : m.start ≡ None
-  pub no_elements : m.elems ≡ []
-  pub no_data : m.segments ≡ []
-  pub no_names : m.names ≡ None
 
 -- every place of a flat module is an i32
 abbrev pub all_i32 : Node → ValType

@@ -17,10 +17,12 @@ pub enum Status {
     WriteFailed,
     /// Memory was wanted and isn't there.
     NoMemory,
+    /// The query about the module is refused.
+    QueryRefused,
 }
 
 impl Status {
-    /// The exit status: 0 for an answer, and then 1 to 5 in the order above.
+    /// The exit status: 0 for an answer, and then 1 to 6 in the order above.
     pub fn code(self) -> u8
         ensures { result ≡ status_code self }
     {
@@ -31,6 +33,7 @@ impl Status {
             Status::ReadFailed => 3,
             Status::WriteFailed => 4,
             Status::NoMemory => 5,
+            Status::QueryRefused => 6,
         }
     }
 }

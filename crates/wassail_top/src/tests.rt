@@ -55,7 +55,7 @@ fn sink(rt: &HostRuntime, piece: usize, fails: u32) -> Result<MemSink, Fail>
     requires { 1 ≤ piece }
 {
     let fails = vec![in rt.alloc(); fails]?;
-    match MemSink::new(rt.alloc(), 99, piece, fails) {
+    match MemSink::new(rt.alloc(), 256, piece, fails) {
         Ok(sink) => Ok(sink),
         Err(_) => Err("no memory")?,
     }
@@ -93,18 +93,47 @@ fn rewrites_one_function(rt: HostRuntime) -> Result<(), Fail> {
     Ok(())
 }
 
+// The first bytes of the addition, by how many there are, and what is answered: a module that is rewritten as itself, or a line.
 #[test]
-fn refuses_no_bytes(rt: HostRuntime) -> Result<(), Fail> {
-    let got = end(&rt, &["rewrite"], b"", NEVER, NEVER)?;
-    let line = "wassail: module refused: not built yet\n";
-    assert_eq!(rt; got, expected(&rt, 1, 0, b"", line)?);
+fn tells_where_a_module_is_cut_off(rt: HostRuntime) -> Result<(), Fail> {
+    let lines = [
+        (0..8, "wassail: module refused: no module header\n"),
+        (8..9, ""),
+        (9..17, "wassail: module refused: section 0 has no frame\n"),
+        (17..18, ""),
+        (18..21, "wassail: module refused: section 1 has no frame\n"),
+        (
+            21..22,
+            "wassail: module refused: function and code sections differ in count\n",
+        ),
+        (22..32, "wassail: module refused: section 2 has no frame\n"),
+    ];
+    for (lengths, line) in lines {
+        for length in lengths {
+            let bytes = &ADD[..ADD.len().min(length)];
+            let got = end(&rt, &["rewrite"], bytes, NEVER, NEVER)?;
+            if line.is_empty() {
+                assert_eq!(rt; got, expected(&rt, 0, 0, bytes, "")?);
+            } else {
+                assert_eq!(rt; got, expected(&rt, 1, 0, b"", line)?);
+            }
+        }
+    }
     Ok(())
 }
 
 #[test]
 fn refuses_words_and_reads_nothing(rt: HostRuntime) -> Result<(), Fail> {
     let none: [&str; 0] = [];
-    for words in [none.as_slice(), &["rewrite", "0"], &["Rewrite"], &[""]] {
+    for words in [
+        none.as_slice(),
+        &["rewrite", "0"],
+        &["Rewrite"],
+        &[""],
+        &["slice", "0", "x", "s"],
+        &["slice", "0", "4294967296", "s"],
+        &["slice", "0", "0"],
+    ] {
         let got = end(&rt, words, HEADER, NEVER, NEVER)?;
         assert_eq!(rt; got, expected(&rt, 2, 8, b"", "wassail: words refused\n")?);
     }
@@ -122,5 +151,87 @@ fn tells_of_a_failed_read(rt: HostRuntime) -> Result<(), Fail> {
 fn stops_at_a_failed_write(rt: HostRuntime) -> Result<(), Fail> {
     let got = end(&rt, &["rewrite"], HEADER, NEVER, 1)?;
     assert_eq!(rt; got, expected(&rt, 4, 0, &HEADER[..5], "")?);
+    Ok(())
+}
+
+#[test]
+fn refuses_a_name_of_one_byte_too_many(rt: HostRuntime) -> Result<(), Fail> {
+    let name = "n".repeat(rt.alloc(), 65537)?;
+    let got = end(&rt, &["slice", "0", "0", name.as_str()], ADD, NEVER, NEVER)?;
+    assert_eq!(rt; got, expected(&rt, 2, 32, b"", "wassail: words refused\n")?);
+    Ok(())
+}
+
+// The addition with the slice of its first instruction, under the name `s`: `local.get 0; i32.const 0; drop; drop; i32.const 0`.
+const SLICED: &[u8] =
+    b"\0asm\x01\0\0\0\x01\x07\x01\x60\x02\x7F\x7F\x01\x7F\x03\x03\x02\x00\x00\x07\x05\x01\x01s\x00\x01\x0A\x14\x02\x07\x00\x20\x00\x20\x01\x6A\x0B\x0A\x00\x20\x00\x41\x00\x1A\x1A\x41\x00\x0B";
+
+#[test]
+fn slices_the_addition(rt: HostRuntime) -> Result<(), Fail> {
+    let got = end(&rt, &["slice", "0", "0", "s"], ADD, NEVER, NEVER)?;
+    assert_eq!(rt;
+        got,
+        expected(&rt, 0, 0, SLICED, "function 1 instruction 0\n")?
+    );
+    let again = end(&rt, &["rewrite"], SLICED, NEVER, NEVER)?;
+    assert_eq!(rt; again, expected(&rt, 0, 0, SLICED, "")?);
+    Ok(())
+}
+
+#[test]
+fn refuses_what_is_not_there_to_slice(rt: HostRuntime) -> Result<(), Fail> {
+    // A type, a function and a block.
+    let blocks =
+        b"\0asm\x01\0\0\0\x01\x04\x01\x60\x00\x00\x03\x02\x01\x00\x0A\x07\x01\x05\x00\x02\x40\x0B\x0B";
+    let cases: [(&[u8], [&str; 4], &str); 4] = [
+        (
+            ADD,
+            ["slice", "0", "9", "s"],
+            "wassail: query refused: no instruction 9, function has 3\n",
+        ),
+        (
+            ADD,
+            ["slice", "1", "0", "s"],
+            "wassail: query refused: no function 1\n",
+        ),
+        (
+            SLICED,
+            ["slice", "0", "0", "s"],
+            "wassail: query refused: export name taken\n",
+        ),
+        (
+            blocks,
+            ["slice", "0", "0", "s"],
+            "wassail: query refused: not built yet\n",
+        ),
+    ];
+    for (bytes, words, line) in cases {
+        let got = end(&rt, words.as_slice(), bytes, NEVER, NEVER)?;
+        assert_eq!(rt; got, expected(&rt, 6, 0, b"", line)?);
+    }
+    Ok(())
+}
+
+// Modules in long spellings, and their canonical ones: a table number in five bytes, a constant of ten bytes, and an `else` before an empty arm.
+#[test]
+fn rewrites_long_spellings(rt: HostRuntime) -> Result<(), Fail> {
+    let cases: [(&[u8], &[u8]); 3] = [
+        (
+            b"\0asm\x01\0\0\0\x01\x04\x01\x60\x00\x00\x03\x02\x01\x00\x0A\x0B\x01\x09\x00\x11\x00\x80\x80\x80\x80\x00\x0B",
+            b"\0asm\x01\0\0\0\x01\x04\x01\x60\x00\x00\x03\x02\x01\x00\x0A\x07\x01\x05\x00\x11\x00\x00\x0B",
+        ),
+        (
+            b"\0asm\x01\0\0\0\x01\x05\x01\x60\x00\x01\x7E\x03\x02\x01\x00\x0A\x0F\x01\x0D\x00\x42\xFF\xFF\xFF\xFF\xFF\xFF\xFF\xFF\xFF\x7F\x0B",
+            b"\0asm\x01\0\0\0\x01\x05\x01\x60\x00\x01\x7E\x03\x02\x01\x00\x0A\x06\x01\x04\x00\x42\x7F\x0B",
+        ),
+        (
+            b"\0asm\x01\0\0\0\x01\x04\x01\x60\x00\x00\x03\x02\x01\x00\x0A\x0A\x01\x08\x00\x41\x00\x04\x40\x05\x0B\x0B",
+            b"\0asm\x01\0\0\0\x01\x04\x01\x60\x00\x00\x03\x02\x01\x00\x0A\x09\x01\x07\x00\x41\x00\x04\x40\x0B\x0B",
+        ),
+    ];
+    for (bytes, short) in cases {
+        let got = end(&rt, &["rewrite"], bytes, NEVER, NEVER)?;
+        assert_eq!(rt; got, expected(&rt, 0, 0, short, "")?);
+    }
     Ok(())
 }

@@ -5,8 +5,12 @@ ghost use Rattle.std.specs.declared.option.Option.{Option};
 ghost use Rattle.std.specs.Io.KnownBytes.{Keeps};
 ghost use Rattle.outside_io.specs.Causes.{Rose};
 ghost use Rattle.wasm_types.specs.declared.module.Module.{Module};
-ghost use Rattle.wasm_types.specs.Small.{SpellsSmall};
+ghost use Rattle.wasm_types.specs.Modules.{Spells};
+ghost use Rattle.wasm_types.specs.Subset.{NestsAtMost};
+ghost use Rattle.code_decode.specs.Expr.{nesting_limit};
 ghost use Rattle.wassail_top.specs.Answers.{Answers, most_bytes};
+ghost use Rattle.wassail_top.specs.Headline.{SliceHolds};
+ghost use Rattle.wassail_top.specs.Orders.Order.{slice};
 ghost use Rattle.wassail_top.specs.Outcome.{Answered, ReadFailed, WriteFailed};
 ghost use Rattle.wassail_top.specs.Refusals.{Answer};
 ghost use Rattle.wassail_top.specs.Words.{order_of};
@@ -56,11 +60,15 @@ pub fn wassail<S: Source, O: Sink, E: Sink>(
         → ¬ Rose (E.faults err.old) (E.faults err.new) → (result ≡ 5) ⊎ Answered (map string_bytes words.now)
         (S.left source.old) (S.left source.new) (O.held out.old) (O.held out.new) (E.held err.old) (E.held err.new) result }
 
-    // So the word `rewrite`, a small module that isn't too long, and no fault give status 0, unless memory is wanted.
+    // So the word `rewrite`, a module that isn't too long and nests within the limit, and no fault give status 0, unless memory is wanted.
     ensures rewrites { (bytes : List ℕ) (m : Module) → map string_bytes words.now ≡ codes "rewrite" ∷ []
-        → S.left source.old ≡ Some bytes → length bytes ≤ most_bytes → SpellsSmall bytes m
+        → S.left source.old ≡ Some bytes → length bytes ≤ most_bytes → Spells bytes m → NestsAtMost nesting_limit m
         → ¬ Rose (S.faults source.old) (S.faults source.new) → ¬ Rose (O.faults out.old) (O.faults out.new)
         → ¬ Rose (E.faults err.old) (E.faults err.new) → (result ≡ 0) ⊎ (result ≡ 5) }
+
+    // Status 0 of `slice`: a valid module that decodes as itself, whose slice follows the original.
+    ensures slices { result ≡ 0 → (func at : ℕ) (name : List ℕ) → order_of (map string_bytes words.now) ≡ Some (slice func at name)
+        → SliceHolds func at name (S.left source.old) (S.left source.new) (O.held out.old) (O.held out.new) (E.held err.old) (E.held err.new) }
 {
     let Ok(reply) = due(alloc, words, source) else {
         return Status::NoMemory.code();

@@ -1,9 +1,10 @@
 // The command that the words are.
-ghost use Rattle.std.specs.Prelude.{map};
+ghost use Rattle.std.specs.Prelude.{◌≡◌, map, IfOk};
 ghost use Rattle.std.specs.String.{string_bytes};
-ghost use Rattle.wassail_top.specs.Orders.{order_read};
+ghost use Rattle.wassail_top.specs.Orders.{order_read, HasShortName};
+ghost use Rattle.wassail_top.specs.Orders.Order.{slice};
 ghost use Rattle.wassail_top.specs.Parses.{Parses};
-ghost use Rattle.wassail_top.specs.Words.{alone, order_of};
+ghost use Rattle.wassail_top.specs.Words.{alone, number_of, order_of, two_and_name};
 
 use std::alloc::Global;
 use thiserror::Error;
@@ -13,6 +14,8 @@ use thiserror::Error;
 pub enum Command {
     /// Write the module in its canonical spelling.
     Rewrite,
+    /// Write the module with a slice of function `func` at position `at` appended, exported as `name`.
+    Slice { func: u32, at: u32, name: String },
 }
 
 /// Why words aren't read as a command.
@@ -27,25 +30,75 @@ pub enum WordsEnd {
 }
 
 /// The command that the words are. `Refused` comes exactly where they are no command (docs/COMMANDS.md).
-pub fn parse_words(_alloc: Global, words: &[String]) -> Result<Command, WordsEnd>
-    ensures { Parses (order_of (map string_bytes words.now)) result }
+pub fn parse_words(alloc: Global, words: &[String]) -> Result<Command, WordsEnd>
+    ensures parses { Parses (order_of (map string_bytes words.now)) result }
+    ensures short { IfOk result (λ command. HasShortName (order_read command)) }
 {
     let [name, rest @ ..] = words else {
         return Err(WordsEnd::Refused);
     };
     match name.as_str() {
         "rewrite" => parse_alone(Command::Rewrite, rest),
+        "slice" => parse_slice(alloc, rest),
         _ => Err(WordsEnd::Refused),
     }
 }
 
 // A command that has no words after its name.
 fn parse_alone(command: Command, rest: &[String]) -> Result<Command, WordsEnd>
-    ensures { Parses (alone (order_read command) (map string_bytes rest.now)) result }
+    requires { HasShortName (order_read command) }
+    ensures parses { Parses (alone (order_read command) (map string_bytes rest.now)) result }
+    ensures short { IfOk result (λ command. HasShortName (order_read command)) }
 {
     if rest.is_empty() {
         Ok(command)
     } else {
         Err(WordsEnd::Refused)
     }
+}
+
+// The greatest number of bytes of a name.
+const MOST_NAME_BYTES: usize = 65536;
+
+// Two numbers and a name.
+fn parse_slice(_alloc: Global, rest: &[String]) -> Result<Command, WordsEnd>
+    ensures parses { Parses (two_and_name slice (map string_bytes rest.now)) result }
+    ensures short { IfOk result (λ command. HasShortName (order_read command)) }
+{
+    let [func, at, name] = rest else {
+        return Err(WordsEnd::Refused);
+    };
+    if name.len() > MOST_NAME_BYTES {
+        return Err(WordsEnd::Refused);
+    }
+    let (Some(func), Some(at)) = (number_word(func), number_word(at)) else {
+        return Err(WordsEnd::Refused);
+    };
+    let Ok(name) = name.clone() else {
+        return Err(WordsEnd::Memory);
+    };
+    Ok(Command::Slice { func, at, name })
+}
+
+// The number that a word of 1 to 10 digits is, where it is below 2^32.
+#[tactic(auto, unfolding(crate::specs::Words::number_of))]
+fn number_word(word: &String) -> Option<u32>
+    ensures { result ≡ number_of (string_bytes word.now) }
+{
+    let digits = word.as_bytes();
+    if digits.is_empty() || digits.len() > 10 {
+        return None;
+    }
+    let mut value: u32 = 0;
+    for digit in digits {
+        if !digit.is_ascii_digit() {
+            return None;
+        }
+        let next = 10 * u64::from(value) + u64::from(*digit - b'0');
+        if next > 4294967295 {
+            return None;
+        }
+        value = next as u32;
+    }
+    Some(value)
 }

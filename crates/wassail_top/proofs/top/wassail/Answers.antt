@@ -1,8 +1,27 @@
-use Rattle.std.proofs.Common.{inl, ◌∙◌}
+use Rattle.std.proofs.Common.{inl, ◌∙◌, map, sym}
+use Rattle.std.specs.String.{string_bytes}
 use Rattle.wassail_top.specs.Reply.{reply_answer}
+use Rattle.wassail_top.proofs.Calm.{read_failed, refused_words, only_refused_words}
 use Rattle.wassail_top.proofs.Complete.{rewritten}
+use Rattle.wassail_top.proofs.HeadlineLemmas.{headline}
 use Rattle.wassail_top.proofs.top.wassail.Goals as goal
+
+pub returns-in-Ok-deliver-clause-read_fault : goal.returns-in-Ok-deliver-clause-read_fault
+returns-in-Ok-deliver-clause-read_fault g c =
+    λ three. read_failed (map string_bytes c.args.words.now) _ _ _ _ _ _ _ _ (reply_answer c.in-Ok.reply) c.in-Ok.ensures.due c.in-Ok-deliver.ensures.all (sym c.code-in-Ok-deliver.ensures ∙ three)
+
+pub returns-in-Ok-deliver-clause-words : goal.returns-in-Ok-deliver-clause-words
+returns-in-Ok-deliver-clause-words g c =
+    λ none. inl (c.code-in-Ok-deliver.ensures ∙ refused_words (map string_bytes c.args.words.now) _ _ _ _ (reply_answer c.in-Ok.reply) c.in-Ok.ensures.due none)
+
+pub returns-in-Ok-deliver-clause-words_only : goal.returns-in-Ok-deliver-clause-words_only
+returns-in-Ok-deliver-clause-words_only g c =
+    λ two. only_refused_words (map string_bytes c.args.words.now) _ _ _ _ (reply_answer c.in-Ok.reply) c.in-Ok.ensures.due (sym c.code-in-Ok-deliver.ensures ∙ two)
 
 pub returns-in-Ok-deliver-clause-rewrites : goal.returns-in-Ok-deliver-clause-rewrites
 returns-in-Ok-deliver-clause-rewrites g c =
-    λ bytes m words left short spells quiet _ _. inl (c.code-in-Ok-deliver.ensures ∙ rewritten _ bytes m _ _ _ _ (reply_answer c.in-Ok.reply) words left short spells quiet c.in-Ok.ensures.due)
+    λ bytes m words left short spells shallow quiet _ _. inl (c.code-in-Ok-deliver.ensures ∙ rewritten _ bytes m _ _ _ _ (reply_answer c.in-Ok.reply) words left short (spells, shallow) quiet c.in-Ok.ensures.due)
+
+pub returns-in-Ok-deliver-clause-slices : goal.returns-in-Ok-deliver-clause-slices
+returns-in-Ok-deliver-clause-slices g c =
+    λ zero f i name order. headline (map string_bytes c.args.words.now) f i name _ _ _ _ _ _ _ _ (reply_answer c.in-Ok.reply) order c.in-Ok.ensures.due (sym c.code-in-Ok-deliver.ensures ∙ zero) c.in-Ok-deliver.ensures.all

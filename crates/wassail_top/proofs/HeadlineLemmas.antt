@@ -1,0 +1,90 @@
+-- Status 0 of `slice` says what it is to say.
+use Rattle.std.proofs.Common.{◌≡◌, ◌≤◌, ◌<◌, ◌+◌, ◌*◌, ◌^◌, ℕ, List, [], length, Option, Some, None, Ok, refl, sym, ap, ◌∙◌, subst, inl, inr, arith}
+use Rattle.std.specs.Prelude.{All}
+use Rattle.outside_io.specs.Whole.{TookAll}
+use Rattle.wasm_types.specs.declared.module.GlobalDef.{GlobalDef}
+use Rattle.wasm_types.specs.declared.module.Elem.{Elem}
+use Rattle.wasm_types.specs.declared.module.Body.{Body}
+use Rattle.wasm_types.specs.declared.module.DataSegment.{DataSegment}
+use Rattle.wasm_types.specs.declared.module.Module.{Module}
+use Rattle.wasm_types.specs.Code.{code_of, nest}
+use Rattle.wasm_types.specs.Canon.{canon}
+use Rattle.wasm_types.specs.Subset.{NestsAtMost}
+use Rattle.wasm_types.proofs.LeastLemmas.{canon_is_least}
+use Rattle.code_decode.specs.Expr.{nesting_limit}
+use Rattle.wassail_top.specs.Answers.{Answers, AnswersOrder, AnswersRead, AnswersBytes, AnswersModule, AnswersSlice, AnswersFlat, IsSlicedAs, IsDue, most_bytes, name_of, slice_answer}
+use Rattle.wassail_top.specs.Flat.{IsFlat}
+use Rattle.wassail_top.specs.Headline.{DecodesAsItself, Follows, SliceHolds}
+use Rattle.wassail_top.specs.Orders.{Order, IsReader}
+use Rattle.wassail_top.specs.Orders.Order.{slice}
+use Rattle.wassail_top.specs.Outcome.{GaveAll}
+use Rattle.wassail_top.specs.Refusals.{Answer, refused}
+use Rattle.wassail_top.specs.SliceLaws.{IsNamedSlice, NestsNone}
+use Rattle.wassail_top.specs.Sliced.{func_count, IsSliced}
+use Rattle.wassail_top.specs.Words.{order_of}
+use Rattle.wassail_top.proofs.Calm.{told_calm, slice_told_calm}
+use Rattle.wassail_top.proofs.Follows.{slice_follows}
+use Rattle.wassail_top.proofs.NamedSlice.{named}
+use Rattle.wassail_top.proofs.SlicedLaws.{slice_valid, slice_spelled}
+
+-- what a slice has no more of than its original
+none_more : {A : Type 0} (P : A → Type 0) (xs ys : List A) → xs ≡ ys → ys ≡ [] → All P xs
+none_more P xs ys e z = subst (All P) (sym (e ∙ z)) (λ k d lt. absurd (omega arith))
+
+within_limit : (m : Module) (f i : ℕ) (name : List ℕ) (new : Module) (at : ℕ) → IsFlat m → IsSliced m f i (name_of name) new at → NestsNone new → NestsAtMost nesting_limit new
+within_limit m f i name new at flat s none = record {
+  globals = none_more (λ (g : GlobalDef). nest (code_of g.init) ≤ nesting_limit) new.globals m.globals (ap (λ (x : Module). x.globals) s.is) flat.only.no_globals;
+  elems = none_more (λ (e : Elem). nest (code_of e.offset) ≤ nesting_limit) new.elems m.elems (ap (λ (x : Module). x.elems) s.is) flat.only.no_elements;
+  bodies = λ k d lt. let e = none k d lt in omega arith;
+  segments = none_more (λ (d : DataSegment). nest (code_of d.offset) ≤ nesting_limit) new.segments m.segments (ap (λ (x : Module). x.segments) s.is) flat.only.no_data;
+}
+
+holds : (f i : ℕ) (name : List ℕ) (bytes : List ℕ) (left_old left_new out_old out_new err_old err_new : Option (List ℕ)) (answer : Answer)
+    → TookAll left_old left_new bytes → length bytes ≤ most_bytes → AnswersBytes (slice f i name) bytes answer → answer.status ≡ 0 → GaveAll out_old out_new err_old err_new answer
+    → SliceHolds f i name left_old left_new out_old out_new err_old err_new
+holds f i name bytes left_old left_new out_old out_new err_old err_new answer took short (inl bad) zero gave =
+    let one : answer.status ≡ 1 = ap (λ (a : Answer). a.status) bad.4 ∙ told_calm bad.0 bad.1 bad.3 in absurd (omega arith)
+holds f i name bytes left_old left_new out_old out_new err_old err_new answer took short (inr (form, decodes, inl unbuilt)) zero gave =
+    let six : answer.status ≡ 6 = ap (λ (a : Answer). a.status) unbuilt.1 in absurd (omega arith)
+holds f i name bytes left_old left_new out_old out_new err_old err_new answer took short (inr (form, decodes, inr (flat, inl (why, refusal, holds_so, told, same)))) zero gave =
+    let six : answer.status ≡ 6 = ap (λ (a : Answer). a.status) same ∙ slice_told_calm f i why refusal told in absurd (omega arith)
+holds f i name bytes left_old left_new out_old out_new err_old err_new answer took short (inr (form, decodes, inr (flat, inr s))) zero gave =
+    let h : IsNamedSlice form (name_of name) s.new = named form f i name s.new s.at flat s.sliced s.proper s.free in
+    let valid = slice_valid form (name_of name) s.new h in
+    let few : length (canon form) ≤ length bytes = canon_is_least bytes form decodes.0 in
+    let name_short = s.short in
+    let spelled = slice_spelled form (name_of name) s.new h (omega arith) (omega arith) in
+    let given = subst (λ (a : Answer). GaveAll out_old out_new err_old err_new a) s.told gave in
+    record {
+      bytes = bytes;
+      took = took;
+      m = form;
+      spelled = decodes.0;
+      new = s.new;
+      at = s.at;
+      sliced = s.sliced;
+      out = given.out;
+      err = given.err;
+      valid = valid.0;
+      itself = record { decodes = (spelled.1, within_limit form f i name s.new s.at flat s.sliced valid.2); alone = spelled.2 };
+      follows = slice_follows form flat f i (name_of name) s.new s.at s.sliced;
+    }
+
+of_read : (f i : ℕ) (name : List ℕ) (left_old left_new out_old out_new err_old err_new : Option (List ℕ)) (answer : Answer)
+    → AnswersRead (slice f i name) left_old left_new answer → answer.status ≡ 0 → GaveAll out_old out_new err_old err_new answer
+    → SliceHolds f i name left_old left_new out_old out_new err_old err_new
+of_read f i name left_old left_new out_old out_new err_old err_new answer (inl long) zero gave =
+    let one : answer.status ≡ 1 = ap (λ (a : Answer). a.status) long.1 in absurd (omega arith)
+of_read f i name left_old left_new out_old out_new err_old err_new answer (inr (bytes, took, short, h)) zero gave =
+    holds f i name bytes left_old left_new out_old out_new err_old err_new answer took short h zero gave
+
+pub headline : (words : List (List ℕ)) (f i : ℕ) (name : List ℕ) (left_old left_new : Option (List ℕ)) (before now : ℕ) (out_old out_new err_old err_new : Option (List ℕ)) (answer : Answer)
+    → order_of words ≡ Some (slice f i name) → IsDue words left_old left_new before now answer → answer.status ≡ 0 → GaveAll out_old out_new err_old err_new answer
+    → SliceHolds f i name left_old left_new out_old out_new err_old err_new
+headline words f i name left_old left_new before now out_old out_new err_old err_new answer order (inl (inl h)) zero gave =
+    let two : answer.status ≡ 2 = ap (λ (a : Answer). a.status) h.1 in absurd (omega arith)
+headline words f i name left_old left_new before now out_old out_new err_old err_new answer order (inl (inr (other, named_so, h))) zero gave =
+    let same : other ≡ slice f i name = (let e : Some other ≡ Some (slice f i name) = sym named_so ∙ order in cc) in
+    of_read f i name left_old left_new out_old out_new err_old err_new answer (subst (λ (o : Order). AnswersOrder o left_old left_new answer) same h) zero gave
+headline words f i name left_old left_new before now out_old out_new err_old err_new answer order (inr failed) zero gave =
+    let three : answer.status ≡ 3 = ap (λ (a : Answer). a.status) failed.4 in absurd (omega arith)
