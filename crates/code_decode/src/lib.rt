@@ -12,4 +12,3 @@ mod tests;
 
 pub use expr::{CodeRefusal, read_expr};
 pub use outcome::Stop;
-pub use plain::read_numbers;

@@ -15,7 +15,11 @@ use std::alloc::Global;
 use wasm_types::{FloatInstr, Instr, MemArg};
 
 /// The vector of unsigned 32-bit numbers that stands at `at` (section 5.1.3), and the place after it. `No` where none does.
-pub fn read_numbers(alloc: Global, bytes: &[u8], at: usize) -> Result<(Items<u32>, usize), Stop>
+pub(crate) fn read_numbers(
+    alloc: Global,
+    bytes: &[u8],
+    at: usize,
+) -> Result<(Items<u32>, usize), Stop>
     ensures { ReadsOr (Counted SpellsU32) bytes.now at result }
 {
     let (count, mut place) = match read_u32(bytes, at) {

@@ -1,4 +1,5 @@
-use crate::{CodeRefusal, Stop, read_expr, read_numbers};
+use crate::plain::read_numbers;
+use crate::{CodeRefusal, Stop, read_expr};
 use std::alloc::{AllocError, Global};
 
 /// So many blocks in one another, and the end of the expression.

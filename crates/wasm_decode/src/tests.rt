@@ -1,5 +1,6 @@
 use crate::{DecodeEnd, decode};
 use std::alloc::{AllocError, Global};
+use wasm_types::Module;
 
 /// `(module (func (param i32 i32) (result i32) local.get 0 local.get 1 i32.add))`, as wabt assembles it.
 const SUM: [u8; 32] = [
@@ -72,6 +73,13 @@ fn the_first_refusal_is_told(rt: HostRuntime) -> Result<(), AllocError> {
     Ok(())
 }
 
+fn has_names(module: &Module, due: &[u8]) -> bool {
+    match &module.names {
+        Some(kept) => kept.as_slice() == due,
+        None => false,
+    }
+}
+
 #[test]
 fn the_last_names_are_kept(rt: HostRuntime) -> Result<(), AllocError> {
     let alloc = rt.alloc();
@@ -82,19 +90,16 @@ fn the_last_names_are_kept(rt: HostRuntime) -> Result<(), AllocError> {
     let bytes = module_of(alloc, &names)?;
     assert!(&rt; bytes.len() < 64);
     match decode(alloc, &bytes) {
-        Ok(module) => match module.names {
-            Some(kept) => assert!(&rt; kept.as_slice() == [2, 3].as_slice()),
-            None => assert!(&rt; false),
-        },
+        Ok(module) => assert!(&rt; has_names(&module, &[2, 3])),
         Err(_) => assert!(&rt; false),
     }
     Ok(())
 }
 
 /// A code section of two bodies, of which the second nests so many blocks, and its size in three bytes.
-fn nested(alloc: Global, depth: usize, last: u8) -> Result<Vec<u8>, AllocError> {
+fn nested(alloc: Global, depth: u16, last: u8) -> Result<Vec<u8>, AllocError> {
     let mut bytes = module_of(alloc, &[0x03, 0x03, 0x02, 0x00, 0x00, 0x0A])?;
-    let size = 3 * depth + 2;
+    let size = 3 * usize::from(depth) + 2;
     let all = size + 7;
     for n in [all, size] {
         let low = (n % 128) as u8;
