@@ -1,14 +1,13 @@
 -- From sequences to expressions.
-use Rattle.std.proofs.Common.{◌≡◌, ◌≢◌, ℕ, ◌+◌, ◌<◌, inl, inr, List, [], ◌∷◌, ◌++◌, length, get_or, drop, refl, sym, ap, ◌∙◌, append_assoc, arith}
-use Rattle.std.proofs.lemmas.Bool.{cases_lt}
+use Rattle.std.proofs.Common.{◌≡◌, ◌≢◌, ℕ, ◌+◌, ◌<◌, inl, List, [], ◌∷◌, ◌++◌, length, get_or, drop, refl, sym, ap, ◌∙◌, append_assoc, arith}
 use Rattle.wasm_types.specs.declared.instr.Instr.{Instr}
-use Rattle.wasm_types.specs.Code.{code_of, nest}
+use Rattle.wasm_types.specs.Code.{code_of}
 use Rattle.wasm_types.specs.Standing.{Stands, NoneStands}
 use Rattle.wasm_types.specs.Grammar.{IsEnder, SpellsInstrs}
 use Rattle.wasm_types.proofs.Once.{after}
 use Rattle.wasm_types.proofs.StandingLemmas.{next}
 use Rattle.wasm_types.proofs.CodeUnique.{first, one_code}
-use Rattle.code_decode.specs.Reading.{SpellsWithin, NoCode}
+use Rattle.code_decode.specs.Reading.{SpellsWithin}
 
 pub expr_stands : (room : ℕ) (bytes : List ℕ) (at end : ℕ) (xs : List Instr) → Stands (SpellsWithin room) bytes at end (code_of xs) → end < length bytes → get_or bytes end 0 ≡ 0x0B → Stands SpellsInstrs bytes at (end + 1) xs
 expr_stands room bytes at end xs s within ender = record {
@@ -23,10 +22,3 @@ no_expr room bytes at end xs s within ender other text rest ys here p =
     let both : s.text ++ get_or bytes end 0 ∷ drop (end + 1) bytes ≡ p.inner ++ 0x0B ∷ rest = ap (λ (t : List ℕ). s.text ++ t) (sym (next bytes end within)) ∙ sym s.here ∙ here ∙ ap (λ (t : List ℕ). t ++ rest) p.parts ∙ append_assoc p.inner (0x0B ∷ []) rest in
     let r = one_code (code_of xs) (code_of ys) s.text p.inner _ _ (get_or bytes end 0) 0x0B s.spelled.0 p.contents ender (inl refl) both in
     other (ap first (after s.text p.inner (get_or bytes end 0 ∷ drop (end + 1) bytes) (0x0B ∷ rest) r.1 both))
-
-pub nests_deep : (room : ℕ) (bytes : List ℕ) (at next_place : ℕ) (is : List Instr) → NoCode room bytes at → Stands SpellsInstrs bytes at next_place is → room < nest (code_of is)
-nests_deep room bytes at next_place is none s =
-    elim (cases_lt room (nest (code_of is))) [
-      | inl lt ↦ lt
-      | inr le ↦ absurd (none s.spelled.inner (drop next_place bytes) (code_of is) 0x0B (s.here ∙ ap (λ (t : List ℕ). t ++ drop next_place bytes) s.spelled.parts ∙ append_assoc s.spelled.inner (0x0B ∷ []) (drop next_place bytes)) (inl refl) (s.spelled.contents, le))
-    ]

@@ -118,9 +118,6 @@ pub no_table : (bytes : List ℕ) (at mid type : ℕ) → Stands SpellsU32 bytes
 no_table bytes at mid type p none text rest v here s =
     none s.back rest 0 (behind_first SpellsU32 bytes at mid type v text s.front s.back rest once_u32 p here s.parts s.first).1 s.second
 
-pub no_align : (bytes : List ℕ) (at : ℕ) → NoneStands SpellsU32 bytes at → NoneStands SpellsAddress bytes at
-no_align bytes at none text rest m here s = none s.front (s.back ++ rest) m.align (here ∙ ap (λ (t : List ℕ). t ++ rest) s.parts ∙ append_assoc s.front s.back rest) s.first
-
 pub no_offset : (bytes : List ℕ) (at mid align : ℕ) → Stands SpellsU32 bytes at mid align → NoneStands SpellsU32 bytes mid → NoneStands SpellsAddress bytes at
 no_offset bytes at mid align p none text rest m here s =
     none s.back rest m.offset (behind_first SpellsU32 bytes at mid align m.align text s.front s.back rest once_u32 p here s.parts s.first).1 s.second

@@ -313,9 +313,6 @@ bad_else bytes before s place lt is e rest h = no_second_else rest s _ (moved re
 pub bad_end : (bytes : List ℕ) (before : List Bool) (place : ℕ) → place < length bytes → get_or bytes place 0 ≡ 0x05 → before ≡ [] → (rest : List ℕ) → Closes rest before (drop place bytes) → ⊥
 bad_end bytes before place lt is e rest h = no_else rest _ (moved rest before [] _ _ e (next_is bytes place 0x05 lt is) h)
 
-pub at_last : (bytes : List ℕ) (before : List Bool) (place : ℕ) → place < length bytes → get_or bytes place 0 ≡ 0x0B → before ≡ [] → Closes (drop (place + 1) bytes) before (drop place bytes)
-at_last bytes before place lt is e = moved _ [] before _ _ (sym e) (sym (next_is bytes place 0x0B lt is)) (last_end (drop (place + 1) bytes))
-
 pub same_plain : (bytes : List ℕ) (s : List Bool) (place end : ℕ) (i : Instr) → place < length bytes → Stands SpellsPlain bytes place end i → SameTail bytes s s place end
 same_plain bytes s place end i lt p = let c = head_cons (one i done) p.text p.spelled in record {
   on = λ rest h. plain_closes rest s i p.text _ p.spelled (moved rest s s _ _ refl p.here h);

@@ -193,13 +193,6 @@ none_back room bytes at end i lt nb n5 s none text rest (block k m r) ender here
 none_back room bytes at end i lt nb n5 s none text rest (repeat k m r) ender here ee p = none_behind room bytes at end i text rest (repeat k m r) ender (λ e. cc) lt s none here ee p
 none_back room bytes at end i lt nb n5 s none text rest (branch k m o r) ender here ee p = none_behind room bytes at end i text rest (branch k m o r) ender (λ e. cc) lt s none here ee p
 
-pub no_more : (room : ℕ) (bytes : List ℕ) (at : ℕ) → at < length bytes → get_or bytes at 0 ≢ 0x0B → get_or bytes at 0 ≢ 0x05 → NoInstr room bytes at → NoCode room bytes at
-no_more room bytes at lt nb n5 none text rest c ender here ee p =
-    let is : c ≡ done = none text (ender ∷ rest) c here p in
-    let empty : text ≡ [] = subst (λ (d : Code). SpellsCode d text) is p.0 in
-    let e = first_at bytes text (ender ∷ rest) at lt here ∙ ap (λ (t : List ℕ). first (t ++ ender ∷ rest)) empty in
-    elim ee [ inl b ↦ nb (e ∙ b) | inr b ↦ n5 (e ∙ b) ]
-
 pub none_past_end : (room : ℕ) (bytes : List ℕ) (at : ℕ) → length bytes ≤ at → NoCode room bytes at
 none_past_end room bytes at past text rest c ender here ee p = absurd (omega (arith, ap length here, length-drop at bytes, length-append text (ender ∷ rest)))
 

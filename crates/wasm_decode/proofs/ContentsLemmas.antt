@@ -25,7 +25,7 @@ use Rattle.code_decode.specs.declared.outcome.Stop.TheVariants as stop
 use Rattle.wasm_decode.specs.declared.list.Entries.{Entries}
 use Rattle.wasm_decode.specs.Depth.{IsShallowGlobal, IsShallowElem, IsShallowBody, IsShallowSegment}
 use Rattle.wasm_decode.specs.Entries.{ReadsEntries}
-use Rattle.wasm_decode.specs.Contents.{Contents, custom, types, imports, funcs, tables, mems, globals, exports, start, elems, bodies, segments, section_id, SpellsContents, IsSpelled, ReadsWhole, Keeps, ReadsCustom, ReadsSection, put}
+use Rattle.wasm_decode.specs.Contents.{Contents, custom, types, imports, funcs, tables, mems, globals, exports, start, elems, bodies, segments, section_id, SpellsContents, ReadsWhole, Keeps, ReadsCustom, ReadsSection, put}
 use Rattle.wasm_decode.proofs.ShapeLemmas.{Any}
 
 -- ---- a vector to the end of its text
@@ -41,10 +41,6 @@ whole_short P S text end found once h lt xs p = not_whole (Counted P) text end h
 pub whole_stops : {A : Type 0} (P : List ℕ → A → Type 0) (S : A → Type 0) (text : List ℕ) (e : Stop) → ReadsEntries P S text 0 (Err e) → ReadsWhole P S text (Err e)
 whole_stops P S text stop.No none = λ xs p. none_whole (Counted P) text xs none p
 whole_stops P S text stop.Memory none = tt
-
-pub keeps_stops : {A : Type 0} (P : List ℕ → A → Type 0) (S : A → Type 0) (text : List ℕ) (kept : List A) (e : Stop) → ReadsWhole P S text (Err e) → Keeps P S text kept (Err e)
-keeps_stops P S text kept stop.No none = none
-keeps_stops P S text kept stop.Memory none = tt
 
 -- ---- a section of a known id
 
@@ -131,9 +127,6 @@ only_start text _ e p = absurd (omega (arith, e))
 
 pub section_start : (text : List ℕ) (old : Module) (func : ℕ) → SpellsU32 text func → ReadsSection 8 text old (put (start func) old) (Ok None)
 section_start text old func p = (start func, (refl, p), (refl, tt))
-
-pub start_none : (text : List ℕ) → ((func : ℕ) → SpellsU32 text func → ⊥) → IsSpelled (8, text) → ⊥
-start_none text none s = let c = only_start text s.0 s.1.0 s.1.1 in none c.0 c.1
 
 only_elems : (text : List ℕ) (c : Contents) → section_id c ≡ 9 → SpellsContents text c → (xs : List Elem) × SpellsElems text xs
 only_elems text (elems xs) e p = (xs, p)

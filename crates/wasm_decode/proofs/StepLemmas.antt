@@ -17,10 +17,9 @@ use Rattle.code_decode.specs.declared.outcome.Stop.{Stop}
 use Rattle.code_decode.specs.declared.outcome.Stop.TheVariants as no
 use Rattle.wasm_decode.specs.declared.frames.Frame.{Frame}
 use Rattle.wasm_decode.specs.declared.refusal.DecodeEnd.{DecodeEnd}
-use Rattle.wasm_decode.specs.declared.refusal.DecodeEnd.TheVariants as end
-use Rattle.wasm_decode.specs.Frames.{IsFramed, ReadsFrames, frame_at}
+use Rattle.wasm_decode.specs.Frames.{IsFramed, frame_at}
 use Rattle.wasm_decode.specs.Contents.{Contents, custom, types, imports, funcs, tables, mems, globals, exports, start, elems, bodies, segments, SpellsSection, IsSpelled, IsShallowContents, IsShallowSection, FirstUnspelled, FirstDeep, HasParts, put, IsPut, ReadsSection}
-use Rattle.wasm_decode.specs.Decode.{IsRead, Refuses, ReadsSections, Decodes, first_deep}
+use Rattle.wasm_decode.specs.Decode.{IsRead, Refuses, ReadsSections, first_deep}
 use Rattle.wasm_decode.proofs.EntryLemmas.{get-front, get-within, get-last, get-in, all-get, all-snoc}
 use Rattle.wasm_decode.proofs.FrameLemmas.{length-map_frame_at}
 
@@ -98,9 +97,6 @@ names_new (g ∷ gs) f v c e p h = (
 )
 
 -- ---- one section more
-
-pub no_parts : (m : Module) → m.types ≡ [] → m.imports ≡ [] → m.funcs ≡ [] → m.tables ≡ [] → m.mems ≡ [] → m.globals ≡ [] → m.exports ≡ [] → m.start ≡ None → m.elems ≡ [] → m.bodies ≡ [] → m.segments ≡ [] → m.names ≡ None → HasParts [] m
-no_parts m a b c d e f g h i j k l = record { types = a; imports = b; funcs = c; tables = d; mems = e; globals = f; exports = g; start = h; elems = i; bodies = j; segments = k; names = l }
 
 pub parts_more : (fs : List (ℕ × List ℕ)) (f : ℕ × List ℕ) (m : Module) (c : Contents) → IsNew fs f → SpellsSection f c → HasParts fs m → HasParts (fs ++ f ∷ []) (put c m)
 parts_more fs f m (custom name payload) new s h = record {
@@ -400,14 +396,3 @@ spells_of bytes frames m f p same =
       names = p.names;
       same = same;
     }
-
-pub sections_end : (bytes : List ℕ) (frames : List (ℕ × List ℕ)) (e : DecodeEnd) → IsFramed bytes frames → ReadsSections frames (Err e) → Decodes bytes (Err e)
-sections_end bytes frames (end.Section k id) f h = record { frames = frames; framed = f; first = h }
-sections_end bytes frames end.Memory f h = tt
-sections_end bytes frames _ f h = absurd h
-
-pub frames_end : (bytes : List ℕ) (e : DecodeEnd) → ReadsFrames bytes (Err e) → Decodes bytes (Err e)
-frames_end bytes (end.Frame k) h = h
-frames_end bytes end.Header h = h
-frames_end bytes end.Memory h = tt
-frames_end bytes _ h = absurd h
