@@ -23,7 +23,7 @@ pub enum ReadEnd {
 }
 
 // Bytes asked for in one call.
-const PIECE: usize = 16384;
+const PIECE: usize = 65536;
 
 /// All that is left in the source, read to its end, where that is at most `limit` bytes.
 ///
