@@ -31,12 +31,26 @@ fn end(
     read_fails: u32,
     out_fails: u32,
 ) -> Result<Ending, Fail> {
+    end_in_pieces(rt, words, bytes, 3, read_fails, out_fails)
+}
+
+// The same, where the source is of another piece.
+fn end_in_pieces(
+    rt: &HostRuntime,
+    words: &[&str],
+    bytes: &[u8],
+    piece: usize,
+    read_fails: u32,
+    out_fails: u32,
+) -> Result<Ending, Fail>
+    requires { 1 ≤ piece }
+{
     let alloc = rt.alloc();
     let mut owned = Vec::new(alloc);
     for word in words {
         owned.push(String::from_str(alloc, word)?)?;
     }
-    let mut source = MemSource::new(bytes.to_vec(alloc)?, 3, vec![in alloc; read_fails]?);
+    let mut source = MemSource::new(bytes.to_vec(alloc)?, piece, vec![in alloc; read_fails]?);
     let mut out = sink(rt, 5, out_fails)?;
     let mut err = sink(rt, 7, NEVER)?;
     let status = wassail(alloc, &owned, &mut source, &mut out, &mut err);
@@ -49,13 +63,13 @@ fn end(
 }
 
 // The number of a call that isn't made.
-const NEVER: u32 = 999;
+const NEVER: u32 = 999999;
 
 fn sink(rt: &HostRuntime, piece: usize, fails: u32) -> Result<MemSink, Fail>
     requires { 1 ≤ piece }
 {
     let fails = vec![in rt.alloc(); fails]?;
-    match MemSink::new(rt.alloc(), 256, piece, fails) {
+    match MemSink::new(rt.alloc(), 4096, piece, fails) {
         Ok(sink) => Ok(sink),
         Err(_) => Err("no memory")?,
     }
@@ -233,5 +247,51 @@ fn rewrites_long_spellings(rt: HostRuntime) -> Result<(), Fail> {
         let got = end(&rt, &["rewrite"], bytes, NEVER, NEVER)?;
         assert_eq!(rt; got, expected(&rt, 0, 0, short, "")?);
     }
+    Ok(())
+}
+
+// A header and one custom section that fills the greatest length: its name is `x`, and zeros follow.
+#[test]
+fn reads_no_byte_more_than_the_greatest_length(rt: HostRuntime) -> Result<(), Fail> {
+    let alloc = rt.alloc();
+    let mut bytes = b"\0asm\x01\0\0\0\x00\xF3\xFF\xFF\x03\x01x".to_vec(alloc)?;
+    let zeros = vec![in alloc; 0u8; 8388593]?;
+    bytes.extend_from_slice(&zeros)?;
+    let got = end_in_pieces(&rt, &["rewrite"], &bytes, 1048576, NEVER, NEVER)?;
+    assert_eq!(rt; got, expected(&rt, 0, 0, HEADER, "")?);
+    bytes.push(0)?;
+    let got = end_in_pieces(&rt, &["rewrite"], &bytes, 1048576, NEVER, NEVER)?;
+    assert_eq!(rt; got.status, 1);
+    assert!(rt; got.out.is_empty());
+    assert_eq!(rt;
+        &got.err[..],
+        b"wassail: module refused: longer than 8388608 bytes\n".as_slice()
+    );
+    Ok(())
+}
+
+// A module of one function `() -> ()`, with this code section up to the locals, and so many nested blocks.
+fn nested(rt: &HostRuntime, head: &[u8], blocks: u32) -> Result<Vec<u8>, Fail> {
+    let mut bytes = b"\0asm\x01\0\0\0\x01\x04\x01\x60\x00\x00\x03\x02\x01\x00".to_vec(rt.alloc())?;
+    bytes.extend_from_slice(head)?;
+    for _ in 0..blocks {
+        bytes.extend_from_slice(b"\x02\x40")?;
+    }
+    for _ in 0..blocks {
+        bytes.push(0x0B)?;
+    }
+    bytes.push(0x0B)?;
+    Ok(bytes)
+}
+
+#[test]
+fn refuses_one_block_too_deep(rt: HostRuntime) -> Result<(), Fail> {
+    let deepest = nested(&rt, b"\x0A\x85\x18\x01\x82\x18\x00", 1024)?;
+    let got = end(&rt, &["rewrite"], &deepest, NEVER, NEVER)?;
+    assert_eq!(rt; got, expected(&rt, 0, 0, &deepest, "")?);
+    let deeper = nested(&rt, b"\x0A\x88\x18\x01\x85\x18\x00", 1025)?;
+    let got = end(&rt, &["rewrite"], &deeper, NEVER, NEVER)?;
+    let line = "wassail: module refused: nesting over 1024 in section id 10 entry 0\n";
+    assert_eq!(rt; got, expected(&rt, 1, 0, b"", line)?);
     Ok(())
 }
