@@ -12,11 +12,10 @@ use Rattle.wasm_types.specs.Numbers.{SpellsU32}
 use Rattle.wasm_types.specs.Parts.{Each}
 use Rattle.wasm_types.specs.Sections.{SpellsCustom, SpellsTypes, SpellsImports, SpellsFuncs, SpellsTables, SpellsMems, SpellsGlobals, SpellsExports, SpellsElems, SpellsBodies, SpellsSegments}
 use Rattle.wasm_types.specs.Modules.{header, SpellsFrame, MayFollow, InOrder, Sections, contents_of, ListIs, OptionIs, NamesAre, Spells}
-use Rattle.wasm_types.specs.Subset.{NestsAtMost}
+use Rattle.wasm_types.specs.Subset.{NestsAtMost, most_nesting}
 use Rattle.wasm_types.proofs.Once.{after, once_u32}
 use Rattle.wasm_types.proofs.SectionLemmas.{whole_is, one_custom, once_types, once_imports, once_funcs, once_tables, once_mems, once_globals, once_exports, once_elems, once_bodies, once_segments}
 use Rattle.wasm_types.proofs.ModuleLemmas.{once_frame, one_list, one_module, drop_all}
-use Rattle.code_decode.specs.Expr.{nesting_limit}
 use Rattle.wasm_decode.specs.declared.refusal.DecodeEnd.{DecodeEnd}
 use Rattle.wasm_decode.specs.declared.refusal.DecodeEnd.TheVariants as end
 use Rattle.wasm_decode.specs.Depth.{IsShallowGlobal, IsShallowElem, IsShallowBody, IsShallowSegment}
@@ -178,7 +177,7 @@ start_there (Some n) text h = (n, h)
 list_there : {A : Type 0} (P : List ℕ → List A → Type 0) (xs : List A) (text : List ℕ) (contents : Option (List ℕ)) → contents ≡ Some text → ListIs P xs contents → P text xs
 list_there P xs text contents e h = subst (ListIs P xs) e h
 
-section_of : (fs : List (ℕ × List ℕ)) (m : Module) (id : ℕ) (text : List ℕ) → HasParts fs m → NestsAtMost nesting_limit m → 0 < id → id ≤ 11 → contents_of id fs ≡ Some text → IsShallowSection (id, text)
+section_of : (fs : List (ℕ × List ℕ)) (m : Module) (id : ℕ) (text : List ℕ) → HasParts fs m → NestsAtMost most_nesting m → 0 < id → id ≤ 11 → contents_of id fs ≡ Some text → IsShallowSection (id, text)
 section_of fs m zero text p s some le e = absurd (omega arith)
 section_of fs m (suc zero) text p s some le e = (types m.types, (refl, list_there SpellsTypes m.types text _ e p.types), tt)
 section_of fs m (suc (suc zero)) text p s some le e = (imports m.imports, (refl, list_there SpellsImports m.imports text _ e p.imports), tt)
@@ -193,7 +192,7 @@ section_of fs m (suc (suc (suc (suc (suc (suc (suc (suc (suc (suc zero))))))))))
 section_of fs m (suc (suc (suc (suc (suc (suc (suc (suc (suc (suc (suc zero))))))))))) text p s some le e = (segments m.segments, (refl, list_there SpellsSegments m.segments text _ e p.segments), s.segments)
 section_of fs m (suc (suc (suc (suc (suc (suc (suc (suc (suc (suc (suc (suc n)))))))))))) text p s some le e = absurd (omega arith)
 
-section_at : (fs : List (ℕ × List ℕ)) (final : ℕ) (m : Module) (k : ℕ) (f : ℕ × List ℕ) → HasParts fs m → NestsAtMost nesting_limit m → InOrder 0 fs final → slice_get fs k ≡ Some f → IsShallowSection f
+section_at : (fs : List (ℕ × List ℕ)) (final : ℕ) (m : Module) (k : ℕ) (f : ℕ × List ℕ) → HasParts fs m → NestsAtMost most_nesting m → InOrder 0 fs final → slice_get fs k ≡ Some f → IsShallowSection f
 section_at fs final m k f p s o e = elim (cases_order f.0 0) [
   | inl z ↦ (let c = custom_at fs m.names k f p.names e z in (custom c.0.0 c.0.1, (sym z, c.1), tt))
   | inr r ↦ elim r [ inl none ↦ absurd (omega arith) | inr some ↦ section_of fs m f.0 f.1 p s some (known_at 0 final fs k f o e) (contents_at 0 final fs k f o e some) ]
@@ -206,7 +205,7 @@ record HasShallowParts (bytes : List ℕ) (m : Module) : Type 0 where
   frames : List (ℕ × List ℕ)
   framed : IsFramed bytes frames
   parts : HasParts frames m
-  shallow : NestsAtMost nesting_limit m
+  shallow : NestsAtMost most_nesting m
 
 begins : (bytes rest : List ℕ) → bytes ≡ header ++ rest → take 8 bytes ≡ header
 begins bytes rest e = ap (take 8) e
@@ -223,7 +222,7 @@ spelled_framed bytes m p = record {
   };
 }
 
-shallow_parts : (bytes : List ℕ) (m : Module) → Spells bytes m → NestsAtMost nesting_limit m → HasShallowParts bytes m
+shallow_parts : (bytes : List ℕ) (m : Module) → Spells bytes m → NestsAtMost most_nesting m → HasShallowParts bytes m
 shallow_parts bytes m p s = record {
   frames = p.frames;
   framed = spelled_framed bytes m p;

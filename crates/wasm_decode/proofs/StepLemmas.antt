@@ -10,8 +10,7 @@ use Rattle.wasm_types.specs.declared.module.Name.{Name}
 use Rattle.wasm_types.specs.Numbers.{SpellsU32}
 use Rattle.wasm_types.specs.Sections.{SpellsCustom, SpellsTypes, SpellsImports, SpellsFuncs, SpellsTables, SpellsMems, SpellsGlobals, SpellsExports, SpellsElems, SpellsBodies, SpellsSegments}
 use Rattle.wasm_types.specs.Modules.{InOrder, Sections, Spells, contents_of, ListIs, OptionIs, NamesAre, named_payload, later_of}
-use Rattle.wasm_types.specs.Subset.{NestsAtMost}
-use Rattle.code_decode.specs.Expr.{nesting_limit}
+use Rattle.wasm_types.specs.Subset.{NestsAtMost, most_nesting}
 use Rattle.wasm_types.proofs.ModuleLemmas.{drop_all}
 use Rattle.code_decode.specs.declared.outcome.Stop.{Stop}
 use Rattle.code_decode.specs.declared.outcome.Stop.TheVariants as no
@@ -268,7 +267,7 @@ parts_more fs f m (segments xs) new s h = record {
   names = names_skip fs f m.names (λ q. omega (arith, s.0, q)) h.names;
 }
 
-pub nests_more : (m : Module) (c : Contents) → NestsAtMost nesting_limit m → IsShallowContents c → NestsAtMost nesting_limit (put c m)
+pub nests_more : (m : Module) (c : Contents) → NestsAtMost most_nesting m → IsShallowContents c → NestsAtMost most_nesting (put c m)
 nests_more m (globals xs) h s = record { globals = s; elems = h.elems; bodies = h.bodies; segments = h.segments }
 nests_more m (elems xs) h s = record { globals = h.globals; elems = s; bodies = h.bodies; segments = h.segments }
 nests_more m (bodies xs) h s = record { globals = h.globals; elems = h.elems; bodies = s; segments = h.segments }

@@ -2,10 +2,9 @@
 use Rattle.std.specs.Prelude.{◌≡◌, ◌≢◌, ℕ, List, length, take, All, Option, Some, None, Result, Ok, Err}
 use Rattle.wasm_types.specs.declared.module.Module.{Module}
 use Rattle.wasm_types.specs.Modules.{header, Spells}
-use Rattle.wasm_types.specs.Subset.{NestsAtMost}
+use Rattle.wasm_types.specs.Subset.{NestsAtMost, most_nesting}
 use Rattle.code_decode.specs.declared.outcome.Stop.{Stop}
 use Rattle.code_decode.specs.declared.outcome.Stop.TheVariants as stop
-use Rattle.code_decode.specs.Expr.{nesting_limit}
 use Rattle.wasm_decode.specs.declared.refusal.DecodeEnd.{DecodeEnd}
 use Rattle.wasm_decode.specs.declared.refusal.DecodeEnd.TheVariants as end
 use Rattle.wasm_decode.specs.Frames.{IsFramed, UnframedAt}
@@ -13,7 +12,7 @@ use Rattle.wasm_decode.specs.Contents.{IsSpelled, IsShallowSection, FirstUnspell
 
 -- what was read of the sections: the first code that nests too deep, or all lists of the module
 abbrev pub IsRead : List (ℕ × List ℕ) → Option (ℕ × ℕ) → Module → Type 0
-IsRead frames None m = HasParts frames m × NestsAtMost nesting_limit m × All IsShallowSection frames
+IsRead frames None m = HasParts frames m × NestsAtMost most_nesting m × All IsShallowSection frames
 IsRead frames (Some at) m = FirstDeep frames at.0 at.1
 
 -- the first code that nests too deep, after one more section
@@ -52,12 +51,12 @@ pub record DiffersInCounts (bytes : List ℕ) : Type 0 where
   pub framed : IsFramed bytes frames
   pub m : Module
   pub parts : HasParts frames m
-  pub shallow : NestsAtMost nesting_limit m
+  pub shallow : NestsAtMost most_nesting m
   pub differ : length m.funcs ≢ length m.bodies
 
 -- The module that the bytes spell, if it nests within the limit, or the first of the refusals, in this order.
 abbrev pub Decodes : List ℕ → Result Module DecodeEnd → Type 0
-Decodes bytes (Ok m) = Spells bytes m × NestsAtMost nesting_limit m
+Decodes bytes (Ok m) = Spells bytes m × NestsAtMost most_nesting m
 Decodes bytes (Err end.Header) = take 8 bytes ≢ header
 Decodes bytes (Err (end.Frame k)) = UnframedAt bytes k
 Decodes bytes (Err (end.Section k id)) = MalformedAt bytes k id

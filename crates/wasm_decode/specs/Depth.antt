@@ -6,11 +6,11 @@ use Rattle.wasm_types.specs.declared.module.Elem.{Elem}
 use Rattle.wasm_types.specs.declared.module.Body.{Body}
 use Rattle.wasm_types.specs.declared.module.DataSegment.{DataSegment}
 use Rattle.wasm_types.specs.Code.{code_of, nest}
-use Rattle.code_decode.specs.Expr.{nesting_limit}
+use Rattle.wasm_types.specs.Subset.{most_nesting}
 
 -- code that nests within the limit
 abbrev pub IsShallow : List Instr → Type 0
-IsShallow is = nest (code_of is) ≤ nesting_limit
+IsShallow is = nest (code_of is) ≤ most_nesting
 
 abbrev pub IsShallowGlobal : GlobalDef → Type 0
 IsShallowGlobal g = IsShallow g.init

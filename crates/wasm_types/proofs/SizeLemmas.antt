@@ -1,5 +1,5 @@
 -- A module has no more entries in its lists than its canonical spelling has bytes.
-use Rattle.std.proofs.Common.{ℕ, ◌+◌, ◌≤◌, List, [], ◌∷◌, ◌++◌, length, Option, Some, None, arith, length-append}
+use Rattle.std.proofs.Common.{ℕ, ◌+◌, ◌≤◌, List, [], ◌∷◌, ◌++◌, length, get_or, Option, Some, None, arith, length-append}
 use Rattle.std.specs.Prelude.{All, IfSome, codes}
 use Rattle.std.proofs.lemmas.List.Elements.{All-nil, All-cons}
 use Rattle.wasm_types.specs.declared.module.FuncType.{FuncType}
@@ -129,32 +129,75 @@ names_within : (names : Option (List ℕ)) (most : ℕ) → length (canon_names 
 names_within None most le = tt
 names_within (Some payload) most le = omega (arith, section_long 0 (canon_sized (codes "name") ++ payload), length-append (canon_sized (codes "name")) payload)
 
+-- two numbers whose sum is within the bound are within it
+both_within : {A : Type 0} (a b : A → ℕ) (most : ℕ) (xs : List A) → All (λ x. a x + b x ≤ most) xs → All (λ x. (a x ≤ most) × (b x ≤ most)) xs
+both_within a b most xs h = λ k d lt. let le = h k d lt in (omega (arith, le), omega (arith, le))
+
 pub has_at_most : (m : Module) (most : ℕ) → length (canon m) ≤ most → HasAtMost most m
 has_at_most m most le =
     let all = canon_lengths m in
     record {
-      entries = omega (
-        arith,
-        all,
-        le,
-        list_long 1 canon_func_type some_func_type m.types,
-        list_long 2 canon_import some_import m.imports,
-        list_long 3 shortest_u32 some_u32 m.funcs,
-        list_long 4 canon_table_type some_table_type m.tables,
-        list_long 5 canon_limits some_limits m.mems,
-        list_long 6 canon_global some_global m.globals,
-        list_long 7 canon_export some_export m.exports,
-        list_long 9 canon_elem some_elem m.elems,
-        list_long 10 canon_entry some_entry m.bodies,
-        list_long 11 canon_segment some_segment m.segments,
-      );
-      types = list_within 1 canon_func_type (λ (t : FuncType). length t.params + length t.results) most func_type_long m.types (omega (arith, all, le));
-      imports = list_within 2 canon_import (λ (i : Import). length i.module.bytes + length i.name.bytes) most import_long m.imports (omega (arith, all, le));
-      globals = list_within 6 canon_global (λ (g : GlobalDef). positions g.init) most global_long m.globals (omega (arith, all, le));
-      exports = list_within 7 canon_export (λ (e : Export). length e.name.bytes) most export_long m.exports (omega (arith, all, le));
-      elems = list_within 9 canon_elem (λ (e : Elem). positions e.offset + length e.funcs) most elem_long m.elems (omega (arith, all, le));
-      bodies = list_within 10 canon_entry (λ (b : Body). length b.locals + positions b.code) most entry_long m.bodies (omega (arith, all, le));
+      types = omega (arith, all, le, list_long 1 canon_func_type some_func_type m.types);
+      imports = omega (arith, all, le, list_long 2 canon_import some_import m.imports);
+      funcs = omega (arith, all, le, list_long 3 shortest_u32 some_u32 m.funcs);
+      tables = omega (arith, all, le, list_long 4 canon_table_type some_table_type m.tables);
+      mems = omega (arith, all, le, list_long 5 canon_limits some_limits m.mems);
+      globals = omega (arith, all, le, list_long 6 canon_global some_global m.globals);
+      exports = omega (arith, all, le, list_long 7 canon_export some_export m.exports);
+      elems = omega (arith, all, le, list_long 9 canon_elem some_elem m.elems);
+      bodies = omega (arith, all, le, list_long 10 canon_entry some_entry m.bodies);
+      segments = omega (arith, all, le, list_long 11 canon_segment some_segment m.segments);
+      values = both_within (λ (t : FuncType). length t.params) (λ (t : FuncType). length t.results) most m.types
+        (list_within 1 canon_func_type (λ (t : FuncType). length t.params + length t.results) most func_type_long m.types (omega (arith, all, le)));
+      import_names = both_within (λ (i : Import). length i.module.bytes) (λ (i : Import). length i.name.bytes) most m.imports
+        (list_within 2 canon_import (λ (i : Import). length i.module.bytes + length i.name.bytes) most import_long m.imports (omega (arith, all, le)));
+      inits = list_within 6 canon_global (λ (g : GlobalDef). positions g.init) most global_long m.globals (omega (arith, all, le));
+      export_names = list_within 7 canon_export (λ (e : Export). length e.name.bytes) most export_long m.exports (omega (arith, all, le));
+      elem_lists = both_within (λ (e : Elem). positions e.offset) (λ (e : Elem). length e.funcs) most m.elems
+        (list_within 9 canon_elem (λ (e : Elem). positions e.offset + length e.funcs) most elem_long m.elems (omega (arith, all, le)));
+      codes = both_within (λ (b : Body). length b.locals) (λ (b : Body). positions b.code) most m.bodies
+        (list_within 10 canon_entry (λ (b : Body). length b.locals + positions b.code) most entry_long m.bodies (omega (arith, all, le)));
       labels = bodies_labels most m.bodies (omega (arith, all, le, items_long 10 canon_entry m.bodies));
-      segments = list_within 11 canon_segment (λ (d : DataSegment). positions d.offset + length d.bytes) most segment_long m.segments (omega (arith, all, le));
+      segment_lists = both_within (λ (d : DataSegment). positions d.offset) (λ (d : DataSegment). length d.bytes) most m.segments
+        (list_within 11 canon_segment (λ (d : DataSegment). positions d.offset + length d.bytes) most segment_long m.segments (omega (arith, all, le)));
       names = names_within m.names most (omega (arith, all, le));
+    }
+
+-- a greater bound
+more_labels : (most more : ℕ) → most ≤ more → (c : Code) → LabelsAtMost most c → LabelsAtMost more c
+more_labels most more le done h = tt
+more_labels most more le (one i rest) h = (omega (arith, h.0), more_labels most more le rest h.1)
+more_labels most more le (block kind inner rest) h = (more_labels most more le inner h.0, more_labels most more le rest h.1)
+more_labels most more le (repeat kind inner rest) h = (more_labels most more le inner h.0, more_labels most more le rest h.1)
+more_labels most more le (branch kind first second rest) h = (more_labels most more le first h.0, more_labels most more le second h.1, more_labels most more le rest h.2)
+
+more_each : {A : Type 0} (P Q : A → Type 0) → ((x : A) → P x → Q x) → (xs : List A) → All P xs → All Q xs
+more_each P Q f xs h = λ k d lt. f (get_or xs k d) (h k d lt)
+
+more_bytes : (most more : ℕ) → most ≤ more → (names : Option (List ℕ)) → IfSome names (λ (bytes : List ℕ). length bytes ≤ most) → IfSome names (λ (bytes : List ℕ). length bytes ≤ more)
+more_bytes most more le None h = tt
+more_bytes most more le (Some bytes) h = omega (arith, h)
+
+pub has_at_most_more : (most more : ℕ) (m : Module) → most ≤ more → HasAtMost most m → HasAtMost more m
+has_at_most_more most more m le h =
+    record {
+      types = omega (arith, h.types);
+      imports = omega (arith, h.imports);
+      funcs = omega (arith, h.funcs);
+      tables = omega (arith, h.tables);
+      mems = omega (arith, h.mems);
+      globals = omega (arith, h.globals);
+      exports = omega (arith, h.exports);
+      elems = omega (arith, h.elems);
+      bodies = omega (arith, h.bodies);
+      segments = omega (arith, h.segments);
+      values = more_each (λ (t : FuncType). (length t.params ≤ most) × (length t.results ≤ most)) (λ (t : FuncType). (length t.params ≤ more) × (length t.results ≤ more)) (λ t e. (omega (arith, e.0), omega (arith, e.1))) m.types h.values;
+      import_names = more_each (λ (i : Import). (length i.module.bytes ≤ most) × (length i.name.bytes ≤ most)) (λ (i : Import). (length i.module.bytes ≤ more) × (length i.name.bytes ≤ more)) (λ i e. (omega (arith, e.0), omega (arith, e.1))) m.imports h.import_names;
+      inits = more_each (λ (g : GlobalDef). positions g.init ≤ most) (λ (g : GlobalDef). positions g.init ≤ more) (λ g e. omega (arith, e)) m.globals h.inits;
+      export_names = more_each (λ (x : Export). length x.name.bytes ≤ most) (λ (x : Export). length x.name.bytes ≤ more) (λ x e. omega (arith, e)) m.exports h.export_names;
+      elem_lists = more_each (λ (x : Elem). (positions x.offset ≤ most) × (length x.funcs ≤ most)) (λ (x : Elem). (positions x.offset ≤ more) × (length x.funcs ≤ more)) (λ x e. (omega (arith, e.0), omega (arith, e.1))) m.elems h.elem_lists;
+      codes = more_each (λ (b : Body). (length b.locals ≤ most) × (positions b.code ≤ most)) (λ (b : Body). (length b.locals ≤ more) × (positions b.code ≤ more)) (λ b e. (omega (arith, e.0), omega (arith, e.1))) m.bodies h.codes;
+      labels = more_each (λ (b : Body). LabelsAtMost most (code_of b.code)) (λ (b : Body). LabelsAtMost more (code_of b.code)) (λ b e. more_labels most more le (code_of b.code) e) m.bodies h.labels;
+      segment_lists = more_each (λ (d : DataSegment). (positions d.offset ≤ most) × (length d.bytes ≤ most)) (λ (d : DataSegment). (positions d.offset ≤ more) × (length d.bytes ≤ more)) (λ d e. (omega (arith, e.0), omega (arith, e.1))) m.segments h.segment_lists;
+      names = more_bytes most more le m.names h.names;
     }

@@ -1,5 +1,5 @@
 -- How many entries the lists of a module have.
-use Rattle.std.specs.Prelude.{ℕ, ◌+◌, ◌≤◌, List, [], length, All, IfSome}
+use Rattle.std.specs.Prelude.{ℕ, ◌≤◌, List, [], length, All, IfSome}
 use Rattle.wasm_types.specs.declared.module.FuncType.{FuncType}
 use Rattle.wasm_types.specs.declared.module.Import.{Import}
 use Rattle.wasm_types.specs.declared.module.GlobalDef.{GlobalDef}
@@ -29,15 +29,25 @@ LabelsAtMost most (block kind inner rest) = LabelsAtMost most inner × LabelsAtM
 LabelsAtMost most (repeat kind inner rest) = LabelsAtMost most inner × LabelsAtMost most rest
 LabelsAtMost most (branch kind first second rest) = LabelsAtMost most first × LabelsAtMost most second × LabelsAtMost most rest
 
--- The lists of the module have at most so many entries together, and so have the lists and the code of each of its parts, and each br_table in a body.
+-- Each list of the module and of each of its parts has at most so many entries, each code at most so many positions, and each br_table in a body at most
+-- so many labels besides its default.
 pub record HasAtMost (most : ℕ) (m : Module) : Type 0 where
-  pub entries : length m.types + length m.imports + length m.funcs + length m.tables + length m.mems + length m.globals + length m.exports + length m.elems + length m.bodies + length m.segments ≤ most
-  pub types : All (λ (t : FuncType). length t.params + length t.results ≤ most) m.types
-  pub imports : All (λ (i : Import). length i.module.bytes + length i.name.bytes ≤ most) m.imports
-  pub globals : All (λ (g : GlobalDef). positions g.init ≤ most) m.globals
-  pub exports : All (λ (e : Export). length e.name.bytes ≤ most) m.exports
-  pub elems : All (λ (e : Elem). positions e.offset + length e.funcs ≤ most) m.elems
-  pub bodies : All (λ (b : Body). length b.locals + positions b.code ≤ most) m.bodies
+  pub types : length m.types ≤ most
+  pub imports : length m.imports ≤ most
+  pub funcs : length m.funcs ≤ most
+  pub tables : length m.tables ≤ most
+  pub mems : length m.mems ≤ most
+  pub globals : length m.globals ≤ most
+  pub exports : length m.exports ≤ most
+  pub elems : length m.elems ≤ most
+  pub bodies : length m.bodies ≤ most
+  pub segments : length m.segments ≤ most
+  pub values : All (λ (t : FuncType). (length t.params ≤ most) × (length t.results ≤ most)) m.types
+  pub import_names : All (λ (i : Import). (length i.module.bytes ≤ most) × (length i.name.bytes ≤ most)) m.imports
+  pub inits : All (λ (g : GlobalDef). positions g.init ≤ most) m.globals
+  pub export_names : All (λ (e : Export). length e.name.bytes ≤ most) m.exports
+  pub elem_lists : All (λ (e : Elem). (positions e.offset ≤ most) × (length e.funcs ≤ most)) m.elems
+  pub codes : All (λ (b : Body). (length b.locals ≤ most) × (positions b.code ≤ most)) m.bodies
   pub labels : All (λ (b : Body). LabelsAtMost most (code_of b.code)) m.bodies
-  pub segments : All (λ (d : DataSegment). positions d.offset + length d.bytes ≤ most) m.segments
+  pub segment_lists : All (λ (d : DataSegment). (positions d.offset ≤ most) × (length d.bytes ≤ most)) m.segments
   pub names : IfSome m.names (λ (bytes : List ℕ). length bytes ≤ most)

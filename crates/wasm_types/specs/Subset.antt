@@ -133,4 +133,5 @@ pub record IsSealed (m : Module) : Type 0 where
   pub valid : IsValid m
   pub no_float : HasNoFloat m
   pub limits : WithinLimits most_answered m
+  pub nesting : NestsAtMost most_nesting m
   pub entries : HasAtMost 0xFFFF_FFFF m

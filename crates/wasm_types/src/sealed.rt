@@ -5,7 +5,7 @@ ghost use Rattle.std.specs.Prelude.{◌≡◌};
 use crate::module::Module;
 use std::marker::Model;
 
-/// A module that is valid (docs/VALIDITY.md), has no float and keeps the limits of modules that are answered.
+/// A module that is valid (docs/VALIDITY.md), has no float, and keeps the limits of modules that are answered and the greatest nesting.
 #[derive(Drop)]
 pub struct ValidModule {
     module: Module,

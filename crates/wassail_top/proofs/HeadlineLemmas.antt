@@ -9,9 +9,8 @@ use Rattle.wasm_types.specs.declared.module.DataSegment.{DataSegment}
 use Rattle.wasm_types.specs.declared.module.Module.{Module}
 use Rattle.wasm_types.specs.Code.{code_of, nest}
 use Rattle.wasm_types.specs.Canon.{canon}
-use Rattle.wasm_types.specs.Subset.{NestsAtMost}
+use Rattle.wasm_types.specs.Subset.{NestsAtMost, most_nesting}
 use Rattle.wasm_types.proofs.LeastLemmas.{canon_is_least}
-use Rattle.code_decode.specs.Expr.{nesting_limit}
 use Rattle.wassail_top.specs.Answers.{Answers, AnswersOrder, AnswersRead, AnswersBytes, AnswersModule, AnswersSlice, AnswersFlat, IsSlicedAs, IsDue, most_bytes, name_of, slice_answer}
 use Rattle.wassail_top.specs.Flat.{IsFlat}
 use Rattle.wassail_top.specs.Headline.{DecodesAsItself, Follows, SliceHolds}
@@ -31,12 +30,12 @@ use Rattle.wassail_top.proofs.SlicedLaws.{slice_valid, slice_spelled}
 none_more : {A : Type 0} (P : A → Type 0) (xs ys : List A) → xs ≡ ys → ys ≡ [] → All P xs
 none_more P xs ys e z = subst (All P) (sym (e ∙ z)) (λ k d lt. absurd (omega arith))
 
-within_limit : (m : Module) (f i : ℕ) (name : List ℕ) (new : Module) (at : ℕ) → IsFlat m → IsSliced m f i (name_of name) new at → NestsNone new → NestsAtMost nesting_limit new
+within_limit : (m : Module) (f i : ℕ) (name : List ℕ) (new : Module) (at : ℕ) → IsFlat m → IsSliced m f i (name_of name) new at → NestsNone new → NestsAtMost most_nesting new
 within_limit m f i name new at flat s none = record {
-  globals = none_more (λ (g : GlobalDef). nest (code_of g.init) ≤ nesting_limit) new.globals m.globals (ap (λ (x : Module). x.globals) s.is) flat.only.no_globals;
-  elems = none_more (λ (e : Elem). nest (code_of e.offset) ≤ nesting_limit) new.elems m.elems (ap (λ (x : Module). x.elems) s.is) flat.only.no_elements;
+  globals = none_more (λ (g : GlobalDef). nest (code_of g.init) ≤ most_nesting) new.globals m.globals (ap (λ (x : Module). x.globals) s.is) flat.only.no_globals;
+  elems = none_more (λ (e : Elem). nest (code_of e.offset) ≤ most_nesting) new.elems m.elems (ap (λ (x : Module). x.elems) s.is) flat.only.no_elements;
   bodies = λ k d lt. let e = none k d lt in omega arith;
-  segments = none_more (λ (d : DataSegment). nest (code_of d.offset) ≤ nesting_limit) new.segments m.segments (ap (λ (x : Module). x.segments) s.is) flat.only.no_data;
+  segments = none_more (λ (d : DataSegment). nest (code_of d.offset) ≤ most_nesting) new.segments m.segments (ap (λ (x : Module). x.segments) s.is) flat.only.no_data;
 }
 
 holds : (f i : ℕ) (name : List ℕ) (bytes : List ℕ) (left_old left_new out_old out_new err_old err_new : Option (List ℕ)) (answer : Answer)

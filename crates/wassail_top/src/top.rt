@@ -6,8 +6,7 @@ ghost use Rattle.std.specs.Io.KnownBytes.{Keeps};
 ghost use Rattle.outside_io.specs.Causes.{Rose};
 ghost use Rattle.wasm_types.specs.declared.module.Module.{Module};
 ghost use Rattle.wasm_types.specs.Modules.{Spells};
-ghost use Rattle.wasm_types.specs.Subset.{NestsAtMost};
-ghost use Rattle.code_decode.specs.Expr.{nesting_limit};
+ghost use Rattle.wasm_types.specs.Subset.{NestsAtMost, most_nesting};
 ghost use Rattle.wassail_top.specs.Answers.{Answers, most_bytes};
 ghost use Rattle.wassail_top.specs.Headline.{SliceHolds};
 ghost use Rattle.wassail_top.specs.Orders.Order.{slice};
@@ -62,7 +61,7 @@ pub fn wassail<S: Source, O: Sink, E: Sink>(
 
     // So the word `rewrite`, a module that isn't too long and nests within the limit, and no fault give status 0, unless memory is wanted.
     ensures rewrites { (bytes : List ℕ) (m : Module) → map string_bytes words.now ≡ codes "rewrite" ∷ []
-        → S.left source.old ≡ Some bytes → length bytes ≤ most_bytes → Spells bytes m → NestsAtMost nesting_limit m
+        → S.left source.old ≡ Some bytes → length bytes ≤ most_bytes → Spells bytes m → NestsAtMost most_nesting m
         → ¬ Rose (S.faults source.old) (S.faults source.new) → ¬ Rose (O.faults out.old) (O.faults out.new)
         → ¬ Rose (E.faults err.old) (E.faults err.new) → (result ≡ 0) ⊎ (result ≡ 5) }
 
