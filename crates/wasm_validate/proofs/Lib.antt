@@ -1,0 +1,9 @@
+pub mod EntryLemmas
+pub mod ImportLemmas
+pub mod OwnLemmas
+pub mod NameLemmas
+pub mod PartLemmas
+pub mod FloatLemmas
+pub mod LimitLemmas
+pub mod AdmissionLemmas
+pub mod OneRefusal

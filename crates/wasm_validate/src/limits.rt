@@ -1,0 +1,190 @@
+//! The limits of what is read (docs/ANALYSES.md, "Limits").
+
+ghost use Rattle.std.specs.Prelude.{◌≡◌, ◌^◌, ◌<◌, find, map, nat_lt};
+ghost use Rattle.wasm_types.specs.declared.place.LimitKind.TheVariants.{Functions, Params, Globals, TableSize, Locals, Positions};
+ghost use Rattle.wasm_types.specs.Sections.{local_count};
+ghost use Rattle.wasm_types.specs.Sizes.{HasAtMost};
+ghost use Rattle.wasm_types.specs.Spaces.{imported, table_import};
+ghost use Rattle.wasm_types.specs.Subset.{most_read};
+ghost use Rattle.wasm_types.specs.WellFormed.{IsWellFormed};
+ghost use Rattle.wasm_validate.specs.Limits.{FindsKind, FindsOver, initial_size};
+
+use crate::imports::{imported_funcs, imported_globals};
+use wasm_types::{Import, ImportKind, LimitKind, Limits, LocalRun, Module};
+
+/// The most functions, imported and own.
+const MOST_FUNCTIONS: u32 = 10_000;
+/// The most parameters of a type.
+const MOST_PARAMS: usize = 64;
+/// The most globals, imported and own.
+const MOST_GLOBALS: u32 = 128;
+/// The most entries that a table begins with.
+const MOST_ENTRIES: u32 = 1_000_000;
+/// The most locals that a body declares.
+const MOST_LOCALS: u32 = 8_192;
+/// The most positions of a body.
+const MOST_POSITIONS: u32 = 100_000;
+
+/// A number over its limit: what it counts, the number of the type or of the function (0 where the limit is on neither), and the number itself.
+#[derive(Clone, Copy)]
+pub(crate) struct Over {
+    pub(crate) which: LimitKind,
+    pub(crate) at: u32,
+    pub(crate) count: u64,
+}
+
+/// How many functions there are, if too many.
+#[tactic(auto, using(crate::proofs::LimitLemmas::few_imports))]
+fn over_functions(m: &Module) -> Option<Over>
+    requires { HasAtMost 0x7FFF_FFFF m.now }
+    ensures { FindsKind m.now Functions result }
+{
+    let count = m.func_count();
+    if count <= MOST_FUNCTIONS {
+        return None;
+    }
+    Some(Over {
+        which: LimitKind::Functions,
+        at: 0,
+        count: u64::from(count),
+    })
+}
+
+/// The first type with too many parameters.
+fn over_params(m: &Module) -> Option<Over>
+    requires { HasAtMost 0x7FFF_FFFF m.now }
+    ensures { FindsKind m.now Params result }
+{
+    for (k, kind) in m.types.as_slice().iter().enumerate() {
+        let count = kind.params.len();
+        if count > MOST_PARAMS {
+            return Some(Over {
+                which: LimitKind::Params,
+                at: k as u32,
+                count: count as u64,
+            });
+        }
+    }
+    None
+}
+
+/// How many globals there are, if too many.
+#[tactic(auto, using(crate::proofs::LimitLemmas::few_imports))]
+fn over_globals(m: &Module) -> Option<Over>
+    requires { HasAtMost 0x7FFF_FFFF m.now }
+    ensures { FindsKind m.now Globals result }
+{
+    let count = imported_globals(m.imports.as_slice()) + m.globals.len() as u32;
+    if count <= MOST_GLOBALS {
+        return None;
+    }
+    Some(Over {
+        which: LimitKind::Globals,
+        at: 0,
+        count: u64::from(count),
+    })
+}
+
+/// How many entries the first imported table over the limit begins with.
+fn large_import(imports: &[Import]) -> Option<u32>
+    ensures { result ≡ find (nat_lt (most_read TableSize)) (map initial_size (imported table_import imports.now)) }
+{
+    for import in imports {
+        if let ImportKind::Table(limits) = import.kind {
+            if limits.min > MOST_ENTRIES {
+                return Some(limits.min);
+            }
+        }
+    }
+    None
+}
+
+/// How many entries the first of the module's own tables over the limit begins with.
+fn large_table(tables: &[Limits]) -> Option<u32>
+    ensures { result ≡ find (nat_lt (most_read TableSize)) (map initial_size tables.now) }
+{
+    tables
+        .iter()
+        .map(|limits| limits.min)
+        .find(|min| *min > MOST_ENTRIES)
+}
+
+/// The first table that begins with too many entries.
+fn over_tables(m: &Module) -> Option<Over>
+    ensures { FindsKind m.now TableSize result }
+{
+    large_import(m.imports.as_slice())
+        .or_else(|| large_table(m.tables.as_slice()))
+        .map(|count| Over {
+            which: LimitKind::TableSize,
+            at: 0,
+            count: u64::from(count),
+        })
+}
+
+/// How many locals the runs declare.
+fn declared_locals(runs: &[LocalRun]) -> u32
+    requires { local_count runs.now < 2 ^ 32 }
+    ensures { result ≡ local_count runs.now }
+{
+    let mut count = 0;
+    for run in runs {
+        count += run.count;
+    }
+    count
+}
+
+/// The first function whose body declares too many locals.
+#[tactic(auto, using(crate::proofs::LimitLemmas::few_imports))]
+fn over_locals(m: &Module) -> Option<Over>
+    requires well_formed { IsWellFormed m.now }
+    requires entries { HasAtMost 0x7FFF_FFFF m.now }
+    ensures { FindsKind m.now Locals result }
+{
+    let first = imported_funcs(m.imports.as_slice());
+    for (k, body) in m.bodies.as_slice().iter().enumerate() {
+        let count = declared_locals(body.locals.as_slice());
+        if count > MOST_LOCALS {
+            return Some(Over {
+                which: LimitKind::Locals,
+                at: first + k as u32,
+                count: u64::from(count),
+            });
+        }
+    }
+    None
+}
+
+/// The first function whose body has too many positions.
+#[tactic(auto, using(crate::proofs::LimitLemmas::few_imports))]
+fn over_positions(m: &Module) -> Option<Over>
+    requires { HasAtMost 0x7FFF_FFFF m.now }
+    ensures { FindsKind m.now Positions result }
+{
+    let first = imported_funcs(m.imports.as_slice());
+    for (k, body) in m.bodies.as_slice().iter().enumerate() {
+        let count = body.count();
+        if count > MOST_POSITIONS {
+            return Some(Over {
+                which: LimitKind::Positions,
+                at: first + k as u32,
+                count: u64::from(count),
+            });
+        }
+    }
+    None
+}
+
+/// The first number over its limit, in the order of `LimitKind`: none where the module is within the limits of what is read.
+pub(crate) fn first_over(m: &Module) -> Option<Over>
+    requires well_formed { IsWellFormed m.now }
+    requires entries { HasAtMost 0x7FFF_FFFF m.now }
+    ensures { FindsOver m.now result }
+{
+    over_functions(m)
+        .or_else(|| over_params(m))
+        .or_else(|| over_globals(m))
+        .or_else(|| over_tables(m))
+        .or_else(|| over_locals(m))
+        .or_else(|| over_positions(m))
+}
