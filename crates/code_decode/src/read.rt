@@ -25,6 +25,14 @@ pub(crate) fn read_kind(byte: u8) -> Option<Option<ValType>>
     }
 }
 
+/// The items, without the room that was kept for more: a module has many short sequences, and most of its memory is theirs.
+fn fitted<T>(mut items: Vec<T>) -> Items<T>
+    ensures { result ≡ items.items }
+{
+    items.shrink_to_fit();
+    Items::from_vec(items)
+}
+
 #[cycle(code)]
 fn read_enclosed(
     alloc: Global,
@@ -110,15 +118,17 @@ pub(crate) fn read_code(
     requires { at ≤ length bytes.now }
     ensures { ReadsCode room bytes.now at result }
 {
-    let mut code = Items::new(alloc);
+    let mut code = Vec::new(alloc);
     let mut place = at;
     while place < bytes.len() && bytes[place] != 0x0B && bytes[place] != 0x05 {
         let (instr, next) = read_instr(alloc, bytes, place, room)?;
-        code.push(instr)?;
+        let Ok(()) = code.push(instr) else {
+            return Err(Stop::Memory);
+        };
         place = next;
     }
     if place >= bytes.len() {
         return Err(Stop::No);
     }
-    Ok((code, place))
+    Ok((fitted(code), place))
 }

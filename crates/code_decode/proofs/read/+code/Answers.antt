@@ -18,7 +18,7 @@ read_code-loop-place-smaller t c =
 pub read_code-loop-place-preserved : goal.read_code-loop-place-preserved
 read_code-loop-place-preserved t c =
     record {
-      so_far = rw c.in_ok-push.ensures.ok (stands_more c.args.room c.args.bytes.now c.args.at c.loop-place.place c.in_ok-instr.next c.loop-place.code c.in_ok-instr.instr c.loop-place.invariant.so_far c.in_ok-instr.ensures);
+      so_far = rw c.in-Ok.ensures.items (stands_more c.args.room c.args.bytes.now c.args.at c.loop-place.place c.in_ok-instr.next c.loop-place.code.items c.in_ok-instr.instr c.loop-place.invariant.so_far c.in_ok-instr.ensures);
       back = λ h. c.loop-place.invariant.back (none_back c.args.room c.args.bytes.now c.loop-place.place c.in_ok-instr.next c.in_ok-instr.instr c.loop-place-test.true c.if-bytes-place-ne11.true c.if-bytes-place-ne5.true c.in_ok-instr.ensures h);
     }
 

@@ -18,7 +18,7 @@ decreases-read_code l = 3 * l.room + 2
 
 abbrev pub invariant-read_code-loop-place : goal.invariant-read_code-loop-place
 invariant-read_code-loop-place l = record {
-  so_far : Stands (SpellsWithin l.room) l.bytes l.at l.place (code_of l.code);
+  so_far : Stands (SpellsWithin l.room) l.bytes l.at l.place (code_of l.code.items);
   back : NoCode l.room l.bytes l.place → NoCode l.room l.bytes l.at;
 }
 
