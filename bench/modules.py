@@ -45,23 +45,31 @@ def flat(positions):
     return module([b"\0" + bytes(code) + b"\x0b"])
 
 
-def mixed_body():
-    """A body with blocks, a loop, branches, a load and a store, and numbers of several lengths."""
-    code = bytearray(b"\x01\x03\x7f")
-    code += b"\x02\x40\x03\x40"
-    code += b"\x20\x00\x45\x0d\x01"
-    code += b"\x20\x00\x41\xc8\x01\x6a\x21\x02"
-    code += b"\x20\x02\x20\x01\x41\x80\x80\x80\x01\x71\x6a\x21\x03"
-    code += b"\x20\x01\x20\x03\x36\x02\x00"
-    code += b"\x20\x01\x2d\x00\x08\x21\x04"
-    code += b"\x20\x00\x41\x01\x6b\x21\x00\x0c\x00\x0b\x0b"
-    code += b"\x20\x02\x04\x7f\x20\x03\x05\x20\x04\x0b"
-    return bytes(code) + b"\x0b"
+# Blocks, a loop, branches, a load and a store, and numbers of several lengths; the stack is empty before and after.
+MIXED = (
+    b"\x02\x40\x03\x40"
+    b"\x20\x00\x45\x0d\x01"
+    b"\x20\x00\x41\xc8\x01\x6a\x21\x02"
+    b"\x20\x02\x20\x01\x41\x80\x80\x80\x01\x71\x6a\x21\x03"
+    b"\x20\x01\x20\x03\x36\x02\x00"
+    b"\x20\x01\x2d\x00\x08\x21\x04"
+    b"\x20\x00\x41\x01\x6b\x21\x00\x0c\x00\x0b\x0b"
+)
+# A value from two arms.
+LAST = b"\x20\x02\x04\x7f\x20\x03\x05\x20\x04\x0b\x0b"
 
 
-def many_functions(size):
-    """Nearly so many bytes, of functions with control, memory and arithmetic."""
-    body = sized(mixed_body())
+def mixed_body(copies):
+    """A body of three more locals, with so many copies of the mixed code."""
+    return b"\x01\x03\x7f" + MIXED * copies + LAST
+
+
+def many_functions(size, most=10000):
+    """Nearly so many bytes, of at most so many functions with control, memory and arithmetic."""
+    copies = 1
+    while len(sized(mixed_body(copies))) * most < size - 64:
+        copies += 1
+    body = sized(mixed_body(copies))
     count = max(1, (size - 64) // (len(body) + 1))
     return (
         HEADER
@@ -70,6 +78,12 @@ def many_functions(size):
         + section(5, counted([b"\0\x01"]))
         + section(10, number(count) + body * count)
     )
+
+
+def nested(positions, depth=1024):
+    """One function of nearly so many positions, in so many nested blocks."""
+    filler = b"\x20\x00\x20\x01\x6a\x1a" * ((positions // depth - 1) // 4)
+    return module([b"\0" + (b"\x02\x40" + filler) * depth + b"\x0b" * depth + b"\x20\x00\x0b"])
 
 
 def not_a_module(size):
