@@ -1,5 +1,5 @@
 -- Bodies, and where a function has one.
-use Rattle.std.proofs.Common.{◌≡◌, ◌↔◌, ◌≤◌, ◌<◌, ◌-◌, ◌+◌, ◌^◌, ◌||◌, ℕ, Bool, if◌then◌else◌, true, false, List, [], ◌∷◌, ◌++◌, length, not, nat_lt, Option, Some, None, All, IfSome, IsTrue, refl, sym, ap, ◌∙◌, subst, arith}
+use Rattle.std.proofs.Common.{◌≡◌, ◌↔◌, ◌≤◌, ◌<◌, ◌-◌, ◌^◌, ◌||◌, ℕ, Bool, if◌then◌else◌, true, false, List, [], ◌∷◌, length, not, nat_lt, Option, Some, None, All, IsTrue, refl, sym, subst, arith}
 use Rattle.std.specs.List.{slice_get}
 use Rattle.std.proofs.lemmas.List.Elements.{All-get_or}
 use Rattle.std.proofs.lemmas.Option.{get_or_from_slice_get, slice_get_within}
@@ -9,10 +9,9 @@ use Rattle.wasm_types.specs.declared.module.Body.{Body}
 use Rattle.wasm_types.specs.declared.module.Module.{Module}
 use Rattle.wasm_types.specs.declared.instr.Instr.{Instr}
 use Rattle.wasm_types.specs.Code.{code_of}
-use Rattle.wasm_types.specs.Typing.{Context}
 use Rattle.wasm_types.specs.Validity.{values_of, Leads, IsValidBody}
 use Rattle.wasm_types.specs.Sections.{local_count}
-use Rattle.wasm_types.specs.Spaces.{run_types, local_types, import_count, func_types, body_of}
+use Rattle.wasm_types.specs.Spaces.{local_types, import_count, func_types, body_of}
 use Rattle.wasm_types.specs.WellFormed.{ProperBody}
 use Rattle.body_check.specs.Labels.{labels_of}
 

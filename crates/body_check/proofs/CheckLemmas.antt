@@ -1,10 +1,10 @@
 -- Sequences, an instruction at a time.
-use Rattle.std.proofs.Common.{◌≡◌, ◌↔◌, ◌<◌, ◌+◌, ℕ, Bool, true, false, List, [], ◌∷◌, ◌++◌, length, map, reverse, drop, get_or, Option, Some, None, Result, Ok, Err, IfOk, IsTrue, refl, sym, ap, ◌∙◌, subst, arith}
-use Rattle.std.proofs.lemmas.List.{reverse-append, append-nil}
+use Rattle.std.proofs.Common.{◌≡◌, ◌↔◌, Bool, true, false, List, [], ◌∷◌, ◌++◌, map, Option, Result, Ok, Err, IfOk, IsTrue, refl, sym, ap, ◌∙◌, subst}
+use Rattle.std.proofs.lemmas.List.{reverse-append}
 use Rattle.wasm_types.specs.declared.module.ValType.{ValType}
 use Rattle.wasm_types.specs.declared.module.ValType.TheVariants.{I32}
 use Rattle.wasm_types.specs.declared.module.NoMemory.{NoMemory}
-use Rattle.wasm_types.specs.declared.instr.Instr.{Instr, Block', Loop', If', Row_of-Instr}
+use Rattle.wasm_types.specs.declared.instr.Instr.{Instr, Block', Loop', If'}
 use Rattle.wasm_types.specs.declared.instr.Instr.TheVariants.{Block, Loop, If}
 use Rattle.wasm_types.specs.Code.{Code, done, one, block, repeat, branch, onto, code_of_row, code_of, is_leaf}
 use Rattle.wasm_types.specs.Typing.{Context}
@@ -13,7 +13,7 @@ use Rattle.wasm_types.proofs.CodeLemmas.{onto-block, onto-loop, onto-if, onto-on
 use Rattle.body_check.specs.declared.stack.Stack.{Stack}
 use Rattle.body_check.specs.Labels.{labels_of}
 use Rattle.body_check.specs.Stacks.{Stands, Exact, Fails, Follows, Pops, Pushes, IsBare}
-use Rattle.body_check.proofs.StackLemmas.{follows-as, After, follows-then, fails-first, bare-empty, bare-nothing}
+use Rattle.body_check.proofs.StackLemmas.{follows-as, After, follows-then, bare-empty, bare-nothing}
 
 pub ruleset steps = (onto-block, onto-loop, onto-if)
 

@@ -1,5 +1,5 @@
 -- Instructions that hold no others, by what the symbolic stack does for them.
-use Rattle.std.proofs.Common.{◌≡◌, ◌≢◌, ◌↔◌, ℕ, Bool, true, false, List, [], ◌∷◌, ◌++◌, map, reverse, Option, Some, None, All, Result, Ok, Err, IfOk, get_or, refl, sym, ap, ◌∙◌, subst, arith}
+use Rattle.std.proofs.Common.{◌≡◌, ◌↔◌, ℕ, Bool, List, [], ◌∷◌, ◌++◌, reverse, Option, Some, None, All, Result, Ok, Err, IfOk, get_or, refl, sym, ap, ◌∙◌, subst}
 use Rattle.std.specs.List.{slice_get}
 use Rattle.std.specs.Option.{option_map}
 use Rattle.std.proofs.lemmas.Option.{slice_get-map}
@@ -14,7 +14,7 @@ use Rattle.body_check.specs.declared.stack.Stack.{Stack}
 use Rattle.body_check.specs.declared.typing.Signature.{Signature}
 use Rattle.body_check.specs.Labels.{labels_of}
 use Rattle.body_check.specs.Signatures.{HasSignature}
-use Rattle.body_check.specs.Stacks.{Stands, Exact, Fails, Follows, PopsOne, Turns, Leaves, Selects}
+use Rattle.body_check.specs.Stacks.{Fails, Follows, PopsOne, Turns, Leaves, Selects}
 use Rattle.body_check.proofs.StackLemmas.{follows-as}
 
 -- ---- labels

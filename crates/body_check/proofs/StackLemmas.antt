@@ -1,9 +1,8 @@
 -- Steps of the symbolic stack, one after another.
-use Rattle.std.proofs.Common.{IsTrue, ◌==◌, eq-eqb, ◌≡◌, ◌↔◌, Bool, true, false, List, [], ◌∷◌, ◌++◌, reverse, Option, Some, None, ℕ, suc, ◌+◌, ◌<◌, length, take, get_or, refl, sym, ap, ◌∙◌, subst, arith, append_assoc}
+use Rattle.std.proofs.Common.{IsTrue, ◌==◌, eq-eqb, ◌≡◌, ◌↔◌, Bool, true, false, List, [], ◌∷◌, ◌++◌, reverse, Option, Some, None, ℕ, suc, ◌+◌, ◌<◌, length, take, get_or, refl, sym, ap, ◌∙◌, subst, arith}
 use Rattle.std.proofs.lemmas.List.{length-reverse, reverse-append, append-nil, take_more}
 use Rattle.std.proofs.lemmas.Bool.{eqb-true}
 use Rattle.wasm_types.specs.declared.module.ValType.{ValType}
-use Rattle.wasm_types.specs.Validity.{values_of}
 use Rattle.wasm_types.specs.declared.module.ValType.TheVariants.{I32}
 use Rattle.body_check.specs.declared.stack.Stack.{Stack}
 use Rattle.body_check.specs.Stacks.{IsKind, Matches, Stands, Exact, Fails, Follows, Pops, PopsOne, Pushes, Turns, Leaves, Selects, TakesTop, IsOnto, IsBare, Agrees}

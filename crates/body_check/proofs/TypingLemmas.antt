@@ -1,15 +1,14 @@
 -- What the table of types says of an instruction, as it is worked out.
-use Rattle.std.proofs.Common.{◌≡◌, ◌≢◌, ◌↔◌, ◌≤◌, ◌^◌, Bool, true, false, zero, suc, ℕ, List, [], ◌∷◌, ◌++◌, reverse, length, Option, Some, None, Result, Ok, Err, IfOk, All, IfSome, IsTrue, if◌then◌else◌, refl, sym, ap, ◌∙◌, subst, arith, true≢false}
+use Rattle.std.proofs.Common.{◌≡◌, ◌≢◌, ◌↔◌, ◌≤◌, Bool, true, false, ℕ, List, [], ◌∷◌, ◌++◌, reverse, length, Option, Some, None, Result, Ok, Err, IfOk, All, if◌then◌else◌, refl, sym, ap, ◌∙◌, subst, arith, true≢false}
 use Rattle.std.specs.List.{slice_get}
 use Rattle.std.specs.Option.{option_map, option_and_then}
 use Rattle.std.proofs.lemmas.List.{reverse-append}
 use Rattle.std.proofs.lemmas.List.Elements.{All-get_or}
 use Rattle.std.proofs.lemmas.Option.{get_or_from_slice_get, slice_get_within}
-use Rattle.wasm_types.specs.declared.ops.Width.{Width}
 use Rattle.wasm_types.specs.declared.ops.NumOp.{NumOp}
 use Rattle.wasm_types.specs.declared.ops.NumOp.TheVariants as num
 use Rattle.wasm_types.specs.declared.module.ValType.{ValType}
-use Rattle.wasm_types.specs.declared.module.ValType.TheVariants.{I32, I64}
+use Rattle.wasm_types.specs.declared.module.ValType.TheVariants.{I32}
 use Rattle.wasm_types.specs.declared.module.FuncType.{FuncType}
 use Rattle.wasm_types.specs.declared.module.GlobalType.{GlobalType}
 use Rattle.wasm_types.specs.declared.module.Module.{Module}
@@ -17,7 +16,7 @@ use Rattle.wasm_types.specs.declared.module.NoMemory.{NoMemory}
 use Rattle.wasm_types.specs.declared.instr.Instr.{Instr}
 use Rattle.wasm_types.specs.declared.instr.Instr.TheVariants as v
 use Rattle.wasm_types.specs.Spaces.{type_numbered, type_of_func, func_types, tables_of, globals_of}
-use Rattle.wasm_types.specs.Typing.{Context, Takes, Types, TypesNum}
+use Rattle.wasm_types.specs.Typing.{Context, Takes, TypesNum}
 use Rattle.wasm_types.specs.Validity.{values_of}
 use Rattle.body_check.specs.declared.typing.Signature.{Signature}
 use Rattle.body_check.specs.Numbered.{FewResults, global_value, mutable_value}

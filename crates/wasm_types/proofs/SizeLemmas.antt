@@ -148,18 +148,18 @@ has_at_most m most le =
       bodies = omega (arith, all, le, list_long 10 canon_entry some_entry m.bodies);
       segments = omega (arith, all, le, list_long 11 canon_segment some_segment m.segments);
       values = both_within (λ (t : FuncType). length t.params) (λ (t : FuncType). length t.results) most m.types
-        (list_within 1 canon_func_type (λ (t : FuncType). length t.params + length t.results) most func_type_long m.types (omega (arith, all, le)));
+          (list_within 1 canon_func_type (λ (t : FuncType). length t.params + length t.results) most func_type_long m.types (omega (arith, all, le)));
       import_names = both_within (λ (i : Import). length i.module.bytes) (λ (i : Import). length i.name.bytes) most m.imports
-        (list_within 2 canon_import (λ (i : Import). length i.module.bytes + length i.name.bytes) most import_long m.imports (omega (arith, all, le)));
+          (list_within 2 canon_import (λ (i : Import). length i.module.bytes + length i.name.bytes) most import_long m.imports (omega (arith, all, le)));
       inits = list_within 6 canon_global (λ (g : GlobalDef). positions g.init) most global_long m.globals (omega (arith, all, le));
       export_names = list_within 7 canon_export (λ (e : Export). length e.name.bytes) most export_long m.exports (omega (arith, all, le));
       elem_lists = both_within (λ (e : Elem). positions e.offset) (λ (e : Elem). length e.funcs) most m.elems
-        (list_within 9 canon_elem (λ (e : Elem). positions e.offset + length e.funcs) most elem_long m.elems (omega (arith, all, le)));
+          (list_within 9 canon_elem (λ (e : Elem). positions e.offset + length e.funcs) most elem_long m.elems (omega (arith, all, le)));
       codes = both_within (λ (b : Body). length b.locals) (λ (b : Body). positions b.code) most m.bodies
-        (list_within 10 canon_entry (λ (b : Body). length b.locals + positions b.code) most entry_long m.bodies (omega (arith, all, le)));
+          (list_within 10 canon_entry (λ (b : Body). length b.locals + positions b.code) most entry_long m.bodies (omega (arith, all, le)));
       labels = bodies_labels most m.bodies (omega (arith, all, le, items_long 10 canon_entry m.bodies));
       segment_lists = both_within (λ (d : DataSegment). positions d.offset) (λ (d : DataSegment). length d.bytes) most m.segments
-        (list_within 11 canon_segment (λ (d : DataSegment). positions d.offset + length d.bytes) most segment_long m.segments (omega (arith, all, le)));
+          (list_within 11 canon_segment (λ (d : DataSegment). positions d.offset + length d.bytes) most segment_long m.segments (omega (arith, all, le)));
       names = names_within m.names most (omega (arith, all, le));
     }
 

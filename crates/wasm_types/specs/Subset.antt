@@ -1,5 +1,5 @@
 -- Which modules are analysed: those with no float type or float instruction, within the limits, that nest no deeper than the greatest nesting.
-use Rattle.std.specs.Prelude.{◌≡◌, ℕ, ◌-◌, ◌≤◌, ◌<◌, ◌⊎◌, List, length, Option, Some, None, All, IfSome, slice_get}
+use Rattle.std.specs.Prelude.{◌≡◌, ℕ, ◌-◌, ◌≤◌, length, Option, Some, None, All, IfSome, slice_get}
 use Rattle.wasm_types.specs.declared.module.ValType.{ValType}
 use Rattle.wasm_types.specs.declared.module.ValType.TheVariants.{I32, I64, F32, F64}
 use Rattle.wasm_types.specs.declared.module.FuncType.{FuncType}

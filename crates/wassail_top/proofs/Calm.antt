@@ -1,20 +1,18 @@
 -- No answer has the status of a fault or of want of memory, and only refused words have that of refused words.
-use Rattle.std.proofs.Common.{◌≡◌, ◌≢◌, ◌⊎◌, ◌<◌, ℕ, List, refl, sym, ap, ◌∙◌, inl, inr, arith, None, Some, subst}
+use Rattle.std.proofs.Common.{◌≡◌, ◌≢◌, ◌⊎◌, ◌<◌, ℕ, List, sym, ap, inl, inr, arith, None, Some, Err, subst}
 use Rattle.std.specs.declared.option.Option.{Option}
-use Rattle.outside_io.specs.Causes.{Rose}
 use Rattle.wasm_types.specs.declared.module.Module.{Module}
-use Rattle.wasm_decode.specs.declared.refusal.DecodeEnd.{DecodeEnd}
-use Rattle.wasm_decode.specs.declared.refusal.DecodeEnd.TheVariants as end
-use Rattle.wassail_top.specs.declared.slice.SliceRefusal.{SliceRefusal}
-use Rattle.wassail_top.specs.declared.slice.SliceRefusal.TheVariants as cause
-use Rattle.wassail_top.specs.declared.refusal.Refusal.{Refusal}
-use Rattle.wassail_top.specs.declared.refusal.Refusal.TheVariants.{ReadFault}
-use Rattle.wassail_top.specs.Orders.{Order, IsReader}
-use Rattle.wassail_top.specs.Orders.Order.{rewrite, slice}
-use Rattle.wassail_top.specs.Answers.{Answers, AnswersOrder, AnswersRead, AnswersBytes, AnswersModule, IsDue, FailedToRead}
-use Rattle.wassail_top.specs.Refusals.{Answer, refused, told_as, slice_told_as}
+use Rattle.wasm_decode.specs.Decode.{Decodes}
+use Rattle.wasm_validate.specs.Admission.{Refuses}
+use Rattle.wassail_top.specs.Orders.{Order}
+use Rattle.wassail_top.specs.Orders.Order.{check, rewrite, slice}
+use Rattle.wassail_top.specs.Answers.{Answers, AnswersOrder, AnswersRead, AnswersModule, AnswersAdmitted, IsDue}
+use Rattle.wassail_top.specs.Refusals.{Answer, decode_told_as, admit_told_as, slice_told_as}
+use Rattle.wassail_top.specs.Slices as query
 use Rattle.wassail_top.specs.Words.{order_of}
 use Rattle.wassail_top.specs.Outcome.{ReadFailed, GaveAll}
+use Rattle.wassail_top.proofs.Causes.{decode_status, admit_status, slice_status, status_of_refused}
+use Rattle.wassail_top.proofs.Reading.{as_read}
 
 -- not a fault, not want of memory and not refused words
 pub record IsCalm (status : ℕ) : Type 0 where
@@ -30,39 +28,26 @@ calm status (inr high) = record { known = λ p. omega arith; no_read_fault = λ 
 calm_at : (answer : Answer) (status : ℕ) → answer.status ≡ status → (status < 2) ⊎ (5 < status) → IsCalm answer.status
 calm_at answer status same far = subst (λ (n : ℕ). IsCalm n) (sym same) (calm status far)
 
-abbrev status_of : Option Refusal → ℕ
-status_of None = 1
-status_of (Some refusal) = (refused refusal).status
-
-pub told_calm : (e : DecodeEnd) (refusal : Refusal) → told_as e ≡ Some refusal → (refused refusal).status ≡ 1
-told_calm end.Header refusal told = ap (λ (o : Option Refusal). status_of o) (sym told)
-told_calm (end.Frame k) refusal told = ap (λ (o : Option Refusal). status_of o) (sym told)
-told_calm (end.Section k id) refusal told = ap (λ (o : Option Refusal). status_of o) (sym told)
-told_calm (end.TooDeep id entry) refusal told = ap (λ (o : Option Refusal). status_of o) (sym told)
-told_calm end.Counts refusal told = ap (λ (o : Option Refusal). status_of o) (sym told)
-told_calm end.Memory refusal told = absurd cc
-
-pub slice_told_calm : (f i : ℕ) (why : SliceRefusal) (refusal : Refusal) → slice_told_as f i why ≡ Some refusal → (refused refusal).status ≡ 6
-slice_told_calm f i cause.NoFunction refusal told = ap (λ (o : Option Refusal). status_of o) (sym told)
-slice_told_calm f i (cause.NoInstruction count) refusal told = ap (λ (o : Option Refusal). status_of o) (sym told)
-slice_told_calm f i cause.NameTaken refusal told = ap (λ (o : Option Refusal). status_of o) (sym told)
-slice_told_calm f i cause.Memory refusal told = absurd cc
+calm_admitted : (order : Order) (m : Module) (answer : Answer) → AnswersAdmitted order m answer → IsCalm answer.status
+calm_admitted check m answer h = calm_at answer 0 (ap (λ (a : Answer). a.status) h) (inl (omega arith))
+calm_admitted rewrite m answer h = calm_at answer 0 (ap (λ (a : Answer). a.status) h) (inl (omega arith))
+calm_admitted (slice func at name) m answer (inl unbuilt) = calm_at answer 6 (ap (λ (a : Answer). a.status) unbuilt.1) (inr (omega arith))
+calm_admitted (slice func at name) m answer (inr (flat, inl bad)) =
+    calm_at answer 6 (status_of_refused (query.Refuses m func at name) (slice_told_as func at) 6 answer (slice_status func at) bad) (inr (omega arith))
+calm_admitted (slice func at name) m answer (inr (flat, inr sliced)) = calm_at answer 0 (ap (λ (a : Answer). a.status) sliced.told) (inl (omega arith))
 
 calm_module : (order : Order) (m : Module) (answer : Answer) → AnswersModule order m answer → IsCalm answer.status
-calm_module rewrite m answer h = calm_at answer 0 (ap (λ (a : Answer). a.status) h) (inl (omega arith))
-calm_module (slice func at name) m answer (inl unbuilt) = calm_at answer 6 (ap (λ (a : Answer). a.status) unbuilt.1) (inr (omega arith))
-calm_module (slice func at name) m answer (inr (flat, inl (why, refusal, holds, told, same))) =
-    calm_at answer 6 (ap (λ (a : Answer). a.status) same ∙ slice_told_calm func at why refusal told) (inr (omega arith))
-calm_module (slice func at name) m answer (inr (flat, inr sliced)) = calm_at answer 0 (ap (λ (a : Answer). a.status) sliced.told) (inl (omega arith))
+calm_module order m answer (inl bad) = calm_at answer 1 (status_of_refused (Refuses m) admit_told_as 1 answer admit_status bad) (inl (omega arith))
+calm_module order m answer (inr (admitted, h)) = calm_admitted order m answer h
 
 calm_read : (order : Order) (old new : Option (List ℕ)) (answer : Answer) → AnswersRead order old new answer → IsCalm answer.status
 calm_read order old new answer (inl long) = calm_at answer 1 (ap (λ (a : Answer). a.status) long.1) (inl (omega arith))
-calm_read order old new answer (inr (bytes, all, short, inl bad)) = calm_at answer 1 (ap (λ (a : Answer). a.status) bad.4 ∙ told_calm bad.0 bad.1 bad.3) (inl (omega arith))
+calm_read order old new answer (inr (bytes, all, short, inl bad)) =
+    calm_at answer 1 (status_of_refused (λ end. Decodes bytes (Err end)) decode_told_as 1 answer decode_status bad) (inl (omega arith))
 calm_read order old new answer (inr (bytes, all, short, inr (m, spells, h))) = calm_module order m answer h
 
 calm_order : (order : Order) (old new : Option (List ℕ)) (answer : Answer) → AnswersOrder order old new answer → IsCalm answer.status
-calm_order rewrite old new answer h = calm_read rewrite old new answer h
-calm_order (slice func at name) old new answer h = calm_read (slice func at name) old new answer h
+calm_order order old new answer h = calm_read order old new answer (as_read order old new answer h)
 
 -- no answer tells of a fault
 not_fault : (words : List (List ℕ)) (old new : Option (List ℕ)) (answer : Answer) → Answers words old new answer → answer.status ≢ 3

@@ -1,69 +1,64 @@
--- What is due, from what a command answers; and that a short text of a module that doesn't nest too deep is rewritten, where the source told it and
--- didn't fail.
-use Rattle.std.proofs.Common.{◌≡◌, ◌+◌, ◌≤◌, ℕ, List, [], ◌∷◌, ◌++◌, length, sym, ap, ◌∙◌, subst, inl, inr, arith, append-nil, length-append, None, Some, Ok, codes}
+-- `check` and `rewrite` have an answer of status 0 to each valid module of the subset, where the source told it and didn't fail.
+use Rattle.std.proofs.Common.{◌≡◌, ◌≤◌, ◌⊎◌, ℕ, List, [], ◌∷◌, length, sym, ap, ◌∙◌, subst, inl, inr, None, Some, Ok, codes}
 use Rattle.std.specs.declared.option.Option.{Option}
-use Rattle.std.specs.Io.KnownBytes.{Consumes}
 use Rattle.outside_io.specs.Causes.{Rose}
-use Rattle.outside_io.specs.Whole.{TookAll}
 use Rattle.wasm_types.specs.declared.module.Module.{Module}
+use Rattle.wasm_types.proofs.ModuleLemmas.{one_module}
 use Rattle.wasm_decode.specs.Decode.{Decodes}
-use Rattle.wassail_top.specs.Answers.{AnswersOrder, AnswersRead, AnswersBytes, IsDue, IsReadDue, most_bytes}
-use Rattle.wassail_top.specs.Orders.{Order, IsReader}
-use Rattle.wassail_top.specs.Orders.Order.{rewrite, slice}
+use Rattle.wasm_validate.specs.Admission.{IsAdmitted}
+use Rattle.wassail_top.specs.Answers.{AnswersRead, AnswersBytes, AnswersModule, AnswersAdmitted, IsDue, most_bytes}
+use Rattle.wassail_top.specs.Orders.{Order}
+use Rattle.wassail_top.specs.Orders.Order.{check, rewrite, slice}
 use Rattle.wassail_top.specs.Refusals.{Answer}
 use Rattle.wassail_top.specs.Words.{order_of}
-use Rattle.wassail_top.proofs.OneDecoding.{no_refusal}
+use Rattle.wassail_top.proofs.OneAdmission.{admitted_not_refused}
+use Rattle.wassail_top.proofs.OneDecoding.{decoded_not_refused}
+use Rattle.wassail_top.proofs.Reading.{as_read, all_taken, not_long}
 
--- what a command that reads answers is what the command answers
-as_order : (order : Order) (old new : Option (List ℕ)) (answer : Answer) → IsReader order → AnswersRead order old new answer → AnswersOrder order old new answer
-as_order rewrite old new answer reads h = h
-as_order (slice func at name) old new answer reads h = h
+-- the command refuses no admitted module
+abbrev RefusesNone : Order → Type 0
+RefusesNone check = Unit {0}
+RefusesNone rewrite = Unit {0}
+RefusesNone (slice func at name) = ⊥
 
-pub as_due : (words : List (List ℕ)) (order : Order) (old new : Option (List ℕ)) (before now : ℕ) (answer : Answer)
-    → order_of words ≡ Some order → IsReader order → IsReadDue order old new before now answer → IsDue words old new before now answer
-as_due words order old new before now answer named reads (inl h) = inl (inr (order, named, as_order order old new answer reads h))
-as_due words order old new before now answer named reads (inr failed) = inr (order, named, reads, failed.0, failed.1)
+abbrev IsWord : List (List ℕ) → Type 0
+IsWord words = (words ≡ codes "check" ∷ []) ⊎ (words ≡ codes "rewrite" ∷ [])
 
--- no more is taken than there is
-pub not_more : (bytes : List ℕ) (new : Option (List ℕ)) (taken : List ℕ) → Consumes (Some bytes) new taken → length taken ≤ length bytes
-not_more bytes None taken h = absurd h
-not_more bytes (Some rest) taken h = omega (arith, ap length h, length-append taken rest)
+of_word : (words : List (List ℕ)) → IsWord words → (order : Order) × (order_of words ≡ Some order) × RefusesNone order
+of_word words (inl w) = (check, ap order_of w, tt)
+of_word words (inr w) = (rewrite, ap order_of w, tt)
 
--- what is taken to the end is all
-pub all_taken : (bytes : List ℕ) (new : Option (List ℕ)) (taken : List ℕ) → TookAll (Some bytes) new taken → taken ≡ bytes
-all_taken bytes None taken h = absurd h.taken
-all_taken bytes (Some rest) taken h = sym (h.taken ∙ ap (λ l. taken ++ l) h.ended ∙ append-nil taken)
+of_admitted : (order : Order) (m : Module) (answer : Answer) → RefusesNone order → AnswersAdmitted order m answer → answer.status ≡ 0
+of_admitted check m answer all h = ap (λ (a : Answer). a.status) h
+of_admitted rewrite m answer all h = ap (λ (a : Answer). a.status) h
+of_admitted (slice func at name) m answer all h = absurd all
 
-of_bytes : (bytes : List ℕ) (m : Module) (answer : Answer) → Decodes bytes (Ok m) → AnswersBytes rewrite bytes answer → answer.status ≡ 0
-of_bytes bytes m answer spells (inl refused) = absurd (no_refusal bytes m refused.0 refused.1 spells refused.2 refused.3)
-of_bytes bytes m answer spells (inr built) = ap (λ a. a.status) built.2
+of_module : (order : Order) (m : Module) (answer : Answer) → RefusesNone order → IsAdmitted m → AnswersModule order m answer → answer.status ≡ 0
+of_module order m answer all admitted (inl refused) = absurd (admitted_not_refused m answer admitted refused)
+of_module order m answer all admitted (inr (same, h)) = of_admitted order m answer all h
 
-of_read : (bytes : List ℕ) (m : Module) (new : Option (List ℕ)) (answer : Answer)
-    → length bytes ≤ most_bytes → Decodes bytes (Ok m) → AnswersRead rewrite (Some bytes) new answer → answer.status ≡ 0
-of_read bytes m new answer short spells (inl long) =
-    let few : length long.0.bytes ≤ length bytes = not_more bytes new long.0.bytes long.0.taken in
-    let many : length long.0.bytes ≡ most_bytes + 1 = long.0.many in
-    absurd (omega arith)
-of_read bytes m new answer short spells (inr whole) =
-    of_bytes whole.0 m answer (subst (λ l. Decodes l (Ok m)) (sym (all_taken bytes new whole.0 whole.1)) spells) whole.3
+of_bytes : (order : Order) (bytes : List ℕ) (m : Module) (answer : Answer) → RefusesNone order → Decodes bytes (Ok m) → IsAdmitted m → AnswersBytes order bytes answer → answer.status ≡ 0
+of_bytes order bytes m answer all decodes admitted (inl refused) = absurd (decoded_not_refused bytes m answer decodes refused)
+of_bytes order bytes m answer all decodes admitted (inr (n, other, h)) = of_module order n answer all (subst IsAdmitted (one_module bytes m n decodes.0 other.0) admitted) h
 
-of_order : (order : Order) (bytes : List ℕ) (m : Module) (new : Option (List ℕ)) (answer : Answer) → Some rewrite ≡ Some order
-    → length bytes ≤ most_bytes → Decodes bytes (Ok m) → AnswersOrder order (Some bytes) new answer → answer.status ≡ 0
-of_order rewrite bytes m new answer same short spells h = of_read bytes m new answer short spells h
-of_order (slice func at name) bytes m new answer same short spells h = let other : Some rewrite ≡ Some (slice func at name) = same in absurd cc
+of_read : (order : Order) (bytes : List ℕ) (m : Module) (new : Option (List ℕ)) (answer : Answer) → RefusesNone order
+    → length bytes ≤ most_bytes → Decodes bytes (Ok m) → IsAdmitted m → AnswersRead order (Some bytes) new answer → answer.status ≡ 0
+of_read order bytes m new answer all short decodes admitted (inl long) = absurd (not_long bytes new long.0 short)
+of_read order bytes m new answer all short decodes admitted (inr (taken, whole, few, h)) =
+    of_bytes order bytes m answer all decodes admitted (subst (λ l. AnswersBytes order l answer) (all_taken bytes new taken whole) h)
 
-told : (words : List (List ℕ)) (bytes : List ℕ) (m : Module) (new : Option (List ℕ)) (before now : ℕ) (answer : Answer)
-    → words ≡ codes "rewrite" ∷ [] → length bytes ≤ most_bytes → Decodes bytes (Ok m) → ¬ Rose before now
+told : (words : List (List ℕ)) (order : Order) (bytes : List ℕ) (m : Module) (new : Option (List ℕ)) (before now : ℕ) (answer : Answer)
+    → order_of words ≡ Some order → RefusesNone order → length bytes ≤ most_bytes → Decodes bytes (Ok m) → IsAdmitted m → ¬ Rose before now
     → IsDue words (Some bytes) new before now answer → answer.status ≡ 0
-told words bytes m new before now answer w short spells quiet (inl (inl refused)) =
-    let some : order_of words ≡ Some rewrite = ap order_of w in
-    let none : order_of words ≡ None = refused.0 in cc
-told words bytes m new before now answer w short spells quiet (inl (inr named)) =
-    of_order named.0 bytes m new answer (sym (ap order_of w) ∙ named.1) short spells named.2
-told words bytes m new before now answer w short spells quiet (inr failed) = absurd (quiet failed.3.rose)
+told words order bytes m new before now answer is all short decodes admitted quiet (inl (inl refused)) = let none : order_of words ≡ None = refused.0 in absurd cc
+told words order bytes m new before now answer is all short decodes admitted quiet (inl (inr (other, named, h))) =
+    let same : order ≡ other = (let e : Some order ≡ Some other = sym is ∙ named in cc) in
+    of_read other bytes m new answer (subst RefusesNone same all) short decodes admitted (as_read other (Some bytes) new answer h)
+told words order bytes m new before now answer is all short decodes admitted quiet (inr failed) = absurd (quiet failed.3.rose)
 
-pub rewritten : (words : List (List ℕ)) (bytes : List ℕ) (m : Module) (old new : Option (List ℕ)) (before now : ℕ) (answer : Answer)
-    → words ≡ codes "rewrite" ∷ [] → old ≡ Some bytes → length bytes ≤ most_bytes → Decodes bytes (Ok m) → ¬ Rose before now
+pub succeeds : (words : List (List ℕ)) (bytes : List ℕ) (m : Module) (old new : Option (List ℕ)) (before now : ℕ) (answer : Answer)
+    → IsWord words → old ≡ Some bytes → length bytes ≤ most_bytes → Decodes bytes (Ok m) → IsAdmitted m → ¬ Rose before now
     → IsDue words old new before now answer → answer.status ≡ 0
-rewritten words bytes m old new before now answer w left short spells quiet due =
-    told words bytes m new before now answer w short spells quiet (subst (λ o. IsDue words o new before now answer) left due)
+succeeds words bytes m old new before now answer w left short decodes admitted quiet due =
+    let (order, is, all) = of_word words w in
+    told words order bytes m new before now answer is all short decodes admitted quiet (subst (λ o. IsDue words o new before now answer) left due)

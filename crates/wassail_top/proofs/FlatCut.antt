@@ -232,16 +232,6 @@ put_without cs old mid false false op n off t l on e =
     e ∙ ap (λ (k : ℕ). old ++ replicate k Drop) t ∙ sym (ap (λ (is : List Instr). old ++ is) (append-nil (replicate (takes cs op) Drop)))
     ∙ sym (ap (λ (k : ℕ). old ++ (replicate (takes cs op) Drop ++ replicate k (I32Const 0))) l)
 
-pub cutting_start : (code : List Instr) (K : Node → Bool) (at : ℕ) → Cutting code K at 0 [] 0
-cutting_start code K at = record {
-  within = omega arith;
-  code_is = λ cs. refl;
-  before = λ cs le. omega arith;
-  behind = λ cs lt. absurd (omega arith);
-  small = omega arith;
-  low = omega arith;
-}
-
 no_more : (cs : Callees) (K : Node → Bool) (code : List Instr) (p : ℕ) → length code ≤ p → flat_cut cs K (code_of (drop p code)) p ≡ []
 unfolding flat_cut
 no_more cs K code p le = ap (λ (is : List Instr). flat_cut cs K (code_of is) p) (drop_of_length-le code le)

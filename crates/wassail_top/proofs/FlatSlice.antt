@@ -91,6 +91,9 @@ pub at_own : {A : Type 0} (m : Module) (xs : List A) (f : ℕ) (x : A) → m.imp
 at_own m xs f x e at = let z = none_imported m e in
     (omega arith, (let n : f ≡ f - import_count m = omega arith in subst (λ (k : ℕ). slice_get xs k ≡ Some x) n at))
 
+pub of_own : {A : Type 0} (m : Module) (xs : List A) (f : ℕ) (x : A) → m.imports ≡ [] → (import_count m ≤ f) × (slice_get xs (f - import_count m) ≡ Some x) → slice_get xs f ≡ Some x
+of_own m xs f x e own = let z = none_imported m e in let n : f - import_count m ≡ f = omega arith in subst (λ (k : ℕ). slice_get xs k ≡ Some x) n own.1
+
 -- what is known of own function f
 pub record OwnFunc (m : Module) (f type : ℕ) (b : Body) : Type 0 where
   pub kind : FuncType

@@ -1,27 +1,29 @@
 -- Status 0 of `slice` says what it is to say.
-use Rattle.std.proofs.Common.{◌≡◌, ◌≤◌, ◌<◌, ◌+◌, ◌*◌, ◌^◌, ℕ, List, [], length, Option, Some, None, Ok, refl, sym, ap, ◌∙◌, subst, inl, inr, arith}
+use Rattle.std.proofs.Common.{◌≡◌, ◌≤◌, ℕ, List, [], length, Option, Some, Err, sym, ap, ◌∙◌, subst, inl, inr, arith}
 use Rattle.std.specs.Prelude.{All}
 use Rattle.outside_io.specs.Whole.{TookAll}
 use Rattle.wasm_types.specs.declared.module.GlobalDef.{GlobalDef}
 use Rattle.wasm_types.specs.declared.module.Elem.{Elem}
-use Rattle.wasm_types.specs.declared.module.Body.{Body}
 use Rattle.wasm_types.specs.declared.module.DataSegment.{DataSegment}
 use Rattle.wasm_types.specs.declared.module.Module.{Module}
 use Rattle.wasm_types.specs.Code.{code_of, nest}
 use Rattle.wasm_types.specs.Canon.{canon}
 use Rattle.wasm_types.specs.Subset.{NestsAtMost, most_nesting}
 use Rattle.wasm_types.proofs.LeastLemmas.{canon_is_least}
-use Rattle.wassail_top.specs.Answers.{Answers, AnswersOrder, AnswersRead, AnswersBytes, AnswersModule, AnswersSlice, AnswersFlat, IsSlicedAs, IsDue, most_bytes, name_of, slice_answer}
+use Rattle.wasm_decode.specs.Decode.{Decodes}
+use Rattle.wasm_validate.specs.Admission as admission
+use Rattle.wassail_top.specs.Answers.{AnswersOrder, AnswersRead, AnswersBytes, IsDue, most_bytes, name_of}
 use Rattle.wassail_top.specs.Flat.{IsFlat}
-use Rattle.wassail_top.specs.Headline.{DecodesAsItself, Follows, SliceHolds}
-use Rattle.wassail_top.specs.Orders.{Order, IsReader}
+use Rattle.wassail_top.specs.Headline.{SliceHolds}
+use Rattle.wassail_top.specs.Orders.{Order}
 use Rattle.wassail_top.specs.Orders.Order.{slice}
 use Rattle.wassail_top.specs.Outcome.{GaveAll}
-use Rattle.wassail_top.specs.Refusals.{Answer, refused}
+use Rattle.wassail_top.specs.Refusals.{Answer, decode_told_as, admit_told_as, slice_told_as}
 use Rattle.wassail_top.specs.SliceLaws.{IsNamedSlice, NestsNone}
-use Rattle.wassail_top.specs.Sliced.{func_count, IsSliced}
+use Rattle.wassail_top.specs.Sliced.{IsSliced}
+use Rattle.wassail_top.specs.Slices.{Refuses}
 use Rattle.wassail_top.specs.Words.{order_of}
-use Rattle.wassail_top.proofs.Calm.{told_calm, slice_told_calm}
+use Rattle.wassail_top.proofs.Causes.{decode_status, admit_status, slice_status, status_of_refused}
 use Rattle.wassail_top.proofs.Follows.{slice_follows}
 use Rattle.wassail_top.proofs.NamedSlice.{named}
 use Rattle.wassail_top.proofs.SlicedLaws.{slice_valid, slice_spelled}
@@ -42,12 +44,14 @@ holds : (f i : ℕ) (name : List ℕ) (bytes : List ℕ) (left_old left_new out_
     → TookAll left_old left_new bytes → length bytes ≤ most_bytes → AnswersBytes (slice f i name) bytes answer → answer.status ≡ 0 → GaveAll out_old out_new err_old err_new answer
     → SliceHolds f i name left_old left_new out_old out_new err_old err_new
 holds f i name bytes left_old left_new out_old out_new err_old err_new answer took short (inl bad) zero gave =
-    let one : answer.status ≡ 1 = ap (λ (a : Answer). a.status) bad.4 ∙ told_calm bad.0 bad.1 bad.3 in absurd (omega arith)
-holds f i name bytes left_old left_new out_old out_new err_old err_new answer took short (inr (form, decodes, inl unbuilt)) zero gave =
+    let one : answer.status ≡ 1 = status_of_refused (λ end. Decodes bytes (Err end)) decode_told_as 1 answer decode_status bad in absurd (omega arith)
+holds f i name bytes left_old left_new out_old out_new err_old err_new answer took short (inr (form, decodes, inl bad)) zero gave =
+    let one : answer.status ≡ 1 = status_of_refused (admission.Refuses form) admit_told_as 1 answer admit_status bad in absurd (omega arith)
+holds f i name bytes left_old left_new out_old out_new err_old err_new answer took short (inr (form, decodes, inr (admitted, inl unbuilt))) zero gave =
     let six : answer.status ≡ 6 = ap (λ (a : Answer). a.status) unbuilt.1 in absurd (omega arith)
-holds f i name bytes left_old left_new out_old out_new err_old err_new answer took short (inr (form, decodes, inr (flat, inl (why, refusal, holds_so, told, same)))) zero gave =
-    let six : answer.status ≡ 6 = ap (λ (a : Answer). a.status) same ∙ slice_told_calm f i why refusal told in absurd (omega arith)
-holds f i name bytes left_old left_new out_old out_new err_old err_new answer took short (inr (form, decodes, inr (flat, inr s))) zero gave =
+holds f i name bytes left_old left_new out_old out_new err_old err_new answer took short (inr (form, decodes, inr (admitted, inr (flat, inl bad)))) zero gave =
+    let six : answer.status ≡ 6 = status_of_refused (Refuses form f i name) (slice_told_as f i) 6 answer (slice_status f i) bad in absurd (omega arith)
+holds f i name bytes left_old left_new out_old out_new err_old err_new answer took short (inr (form, decodes, inr (admitted, inr (flat, inr s)))) zero gave =
     let h : IsNamedSlice form (name_of name) s.new = named form f i name s.new s.at flat s.sliced s.proper s.free in
     let valid = slice_valid form (name_of name) s.new h in
     let few : length (canon form) ≤ length bytes = canon_is_least bytes form decodes.0 in

@@ -14,19 +14,20 @@ pub mod CutLaw
 pub mod Marks
 pub mod Straight
 pub mod FlatCode
-pub mod HeightLemmas
-pub mod ExportLemmas
-pub mod FlatLemmas
 pub mod Follows
 pub mod FlatKept
 pub mod FlatCut
 pub mod FlatSlice
 pub mod FlatTyping
+mod SmallCode
 pub mod SlicedValid
 pub mod SlicedSize
 pub mod SlicedLaws
 mod NamedSlice
+mod Causes
+mod Reading
 mod OneDecoding
+mod OneAdmission
 mod Complete
 mod Calm
 mod HeadlineLemmas

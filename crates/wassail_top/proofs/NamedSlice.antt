@@ -1,5 +1,5 @@
 -- A slice that was made under a free name, and what follows of it for the answer.
-use Rattle.std.proofs.Common.{◌≡◌, ◌+◌, ◌*◌, ◌<◌, ◌≤◌, ◌^◌, ℕ, List, length, arith, get_or}
+use Rattle.std.proofs.Common.{◌<◌, ◌≤◌, ◌^◌, ℕ, List, length, arith, get_or}
 use Rattle.std.specs.Prelude.{IsUtf8}
 use Rattle.std.proofs.lemmas.List.Elements.{All-from_get_or}
 use Rattle.wasm_types.specs.declared.module.Module.{Module}

@@ -1,5 +1,5 @@
 -- A module has one answer to a slice.
-use Rattle.std.proofs.Common.{◌≡◌, ◌<◌, ◌≤◌, ◌-◌, ℕ, List, length, Bool, true, false, Option, Some, None, refl, sym, ap, ◌∙◌, subst, inl, inr, arith}
+use Rattle.std.proofs.Common.{◌≡◌, ◌<◌, ℕ, List, Bool, true, false, Some, refl, sym, ap, ◌∙◌, subst, inl, inr, arith}
 use Rattle.std.specs.Prelude.{slice_get}
 use Rattle.std.proofs.Math.Path.{fun_ext}
 use Rattle.std.proofs.lemmas.Option.{slice_get_within}
@@ -9,18 +9,18 @@ use Rattle.wasm_types.specs.declared.module.Module.{Module}
 use Rattle.wasm_types.specs.Code.{code_of, count, list_of}
 use Rattle.wasm_types.specs.Marked.{unmarked, watched_at}
 use Rattle.wasm_meaning.specs.Actions.{callees}
-use Rattle.wassail_top.specs.declared.refusal.Refusal.{Refusal}
+use Rattle.report_text.specs.declared.report.Report.{Report}
 use Rattle.wassail_top.specs.declared.slice.SliceRefusal.{SliceRefusal}
 use Rattle.wassail_top.specs.declared.slice.SliceRefusal.TheVariants as cause
 use Rattle.wassail_top.specs.Answers.{IsSlicedAs, AnswersFlat, AnswersSlice, name_of, slice_answer}
 use Rattle.wassail_top.specs.Flat.{IsFlat}
 use Rattle.wassail_top.specs.Kept.{Tells}
 use Rattle.wassail_top.specs.Nodes.{Node}
-use Rattle.wassail_top.specs.Refusals.{Answer, refused, slice_told_as}
+use Rattle.wassail_top.specs.Refusals.{Answer, slice_told_as}
 use Rattle.wassail_top.specs.Sliced.{func_count, KeptAt, cut_of, appended, IsSliced}
-use Rattle.wassail_top.specs.Slices.{HasPositions, HasInstruction, HasExport, Refuses}
-use Rattle.wassail_top.proofs.FlatLemmas.{own_func, own_body}
-use Rattle.wassail_top.proofs.FlatSlice.{own_count}
+use Rattle.wassail_top.specs.Slices.{HasPositions, Refuses}
+use Rattle.wassail_top.proofs.Causes.{one_refused}
+use Rattle.wassail_top.proofs.FlatSlice.{own_count, of_own}
 
 -- a function with a body is one of the module's
 has_func : (m : Module) (f n : ℕ) → IsFlat m → HasPositions m f n → f < func_count m
@@ -37,7 +37,7 @@ one_count m f n k (b, at, is) (d, there, counted) =
 
 -- ---- refusals
 
-one_cause : (m : Module) (f i : ℕ) (name : List ℕ) (c d : SliceRefusal) (r s : Refusal) → IsFlat m → Refuses m f i name c → Refuses m f i name d → slice_told_as f i c ≡ Some r → slice_told_as f i d ≡ Some s → c ≡ d
+one_cause : (m : Module) (f i : ℕ) (name : List ℕ) (c d : SliceRefusal) (r s : Report) → IsFlat m → Refuses m f i name c → Refuses m f i name d → slice_told_as f i c ≡ Some r → slice_told_as f i d ≡ Some s → c ≡ d
 one_cause m f i name cause.NoFunction cause.NoFunction r s flat p q told told' = refl
 one_cause m f i name cause.NoFunction (cause.NoInstruction n) r s flat p q told told' = let lt = has_func m f n flat q.0 in absurd (omega arith)
 one_cause m f i name cause.NoFunction cause.NameTaken r s flat p q told told' = let lt = has_func m f q.0.0 flat q.0.1 in absurd (omega arith)
@@ -55,10 +55,10 @@ one_cause m f i name cause.Memory d r s flat p q told told' = absurd cc
 -- ---- slices
 
 sliced_positions : (m : Module) (f i : ℕ) (name : List ℕ) (new : Module) (at : ℕ) → IsFlat m → (s : IsSliced m f i (name_of name) new at) → HasPositions m f (count (code_of s.body.code))
-sliced_positions m f i name new at flat s = (s.body, own_body m f s.body flat.only.no_imports s.has_body, refl)
+sliced_positions m f i name new at flat s = (s.body, of_own m m.bodies f s.body flat.only.no_imports s.has_body, refl)
 
 -- what is sliced isn't refused
-not_both : (m : Module) (f i : ℕ) (name : List ℕ) (c : SliceRefusal) (r : Refusal) (answer : Answer) → IsFlat m → Refuses m f i name c → slice_told_as f i c ≡ Some r → IsSlicedAs m f i name answer → ⊥
+not_both : (m : Module) (f i : ℕ) (name : List ℕ) (c : SliceRefusal) (r : Report) (answer : Answer) → IsFlat m → Refuses m f i name c → slice_told_as f i c ≡ Some r → IsSlicedAs m f i name answer → ⊥
 not_both m f i name cause.NoFunction r answer flat p told s =
     let lt = has_func m f (count (code_of s.sliced.body.code)) flat (sliced_positions m f i name s.new s.at flat s.sliced) in omega arith
 not_both m f i name (cause.NoInstruction n) r answer flat p told s =
@@ -94,10 +94,7 @@ one_sliced m f i name new other at to p q =
     )
 
 one_flat : (f i : ℕ) (name : List ℕ) (m : Module) (a b : Answer) → IsFlat m → AnswersFlat f i name m a → AnswersFlat f i name m b → a ≡ b
-one_flat f i name m a b flat (inl p) (inl q) =
-    let same : p.0 ≡ q.0 = one_cause m f i name p.0 q.0 p.1 q.1 flat p.2 q.2 p.3 q.3 in
-    let told : Some p.1 ≡ Some q.1 = sym p.3 ∙ ap (slice_told_as f i) same ∙ q.3 in
-    p.4 ∙ ap refused (let e : p.1 ≡ q.1 = cc in e) ∙ sym q.4
+one_flat f i name m a b flat (inl p) (inl q) = one_refused (Refuses m f i name) (slice_told_as f i) a b (λ c d r s. one_cause m f i name c d r s flat) p q
 one_flat f i name m a b flat (inl p) (inr s) = absurd (not_both m f i name p.0 p.1 b flat p.2 p.3 s)
 one_flat f i name m a b flat (inr s) (inl q) = absurd (not_both m f i name q.0 q.1 a flat q.2 q.3 s)
 one_flat f i name m a b flat (inr s) (inr t) =

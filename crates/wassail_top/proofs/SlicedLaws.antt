@@ -22,11 +22,10 @@ use Rattle.wassail_top.specs.Sliced.{cut_of, result_type, appended}
 use Rattle.std.proofs.lemmas.Option.{slice_get-get_or}
 use Rattle.wassail_top.specs.Flat.{IsFlat}
 use Rattle.wassail_top.specs.SliceLaws.{NestsNone, IsNamedSlice, SliceIsValid, SliceIsShort, SliceIsSpelled, SliceHasFewPositions}
-use Rattle.wassail_top.proofs.FlatSlice.{all_at, type_at, at_own, own_count, few_functions, few_positions}
+use Rattle.wassail_top.proofs.FlatSlice.{all_at, type_at, at_own, of_own, own_count, few_functions, few_positions}
 use Rattle.wassail_top.proofs.FlatCut.{flat_cut, cut_is, cut_length}
 use Rattle.wassail_top.proofs.FlatKept.{small_count}
 use Rattle.wassail_top.proofs.FlatTyping.{within, cut_leads, good_cut, small_nests_none}
-use Rattle.wassail_top.proofs.FlatLemmas.{own_func, own_body}
 use Rattle.wassail_top.proofs.SlicedValid.{Fits, locals_i32, valid_appended, small_appended}
 use Rattle.wassail_top.proofs.SlicedSize.{cut_size, appended_size}
 
@@ -34,10 +33,10 @@ use Rattle.wassail_top.proofs.SlicedSize.{cut_size, appended_size}
 old_valid : (m : Module) (name : Name) (new : Module) (h : IsNamedSlice m name new) → IsValidBody m h.sliced.kind h.sliced.body
 old_valid m name new h =
     let none = h.flat.only.no_imports in
-    h.flat.valid.1 (part.FuncAt h.func) h.sliced.kind h.sliced.body (type_at m h.func h.sliced.type h.sliced.kind none (own_func m h.func h.sliced.type h.flat.only.no_imports h.sliced.own) h.sliced.kind_is) (at_own m m.bodies h.func h.sliced.body none (own_body m h.func h.sliced.body h.flat.only.no_imports h.sliced.has_body))
+    h.flat.valid.1 (part.FuncAt h.func) h.sliced.kind h.sliced.body (type_at m h.func h.sliced.type h.sliced.kind none (of_own m m.funcs h.func h.sliced.type h.flat.only.no_imports h.sliced.own) h.sliced.kind_is) (at_own m m.bodies h.func h.sliced.body none (of_own m m.bodies h.func h.sliced.body h.flat.only.no_imports h.sliced.has_body))
 
 old_small : (m : Module) (name : Name) (new : Module) (h : IsNamedSlice m name new) → IsSmallBody h.sliced.body
-old_small m name new h = all_at IsSmallBody m.bodies h.func h.sliced.body h.flat.small.1 (own_body m h.func h.sliced.body h.flat.only.no_imports h.sliced.has_body)
+old_small m name new h = all_at IsSmallBody m.bodies h.func h.sliced.body h.flat.small.1 (of_own m m.bodies h.func h.sliced.body h.flat.only.no_imports h.sliced.has_body)
 
 -- the new body's code
 new_code : (m : Module) (name : Name) (new : Module) → IsNamedSlice m name new → List Instr
@@ -58,12 +57,12 @@ fits m name new h =
     let s = h.sliced in
     let code = code_is m name new h in
     let small = old_small m name new h in
-    let proper = all_at ProperBody m.bodies h.func s.body h.flat.valid.0.bodies (own_body m h.func h.sliced.body h.flat.only.no_imports h.sliced.has_body) in
+    let proper = all_at ProperBody m.bodies h.func s.body h.flat.valid.0.bodies (of_own m m.bodies h.func h.sliced.body h.flat.only.no_imports h.sliced.has_body) in
     let good = good_cut (callees m) s.kept (code_of s.body.code) 0 (proper.2, small.1) in
     let type_small = all_at IsSmallType m.types s.type s.kind h.flat.small.0 s.kind_is in
     record {
       type_is = s.kind_is;
-      number = all_at IsU32 m.funcs h.func s.type h.flat.valid.0.funcs (own_func m h.func h.sliced.type h.flat.only.no_imports h.sliced.own);
+      number = all_at IsU32 m.funcs h.func s.type h.flat.valid.0.funcs (of_own m m.funcs h.func h.sliced.type h.flat.only.no_imports h.sliced.own);
       proper = (proper.0, proper.1, subst ProperInstrs (sym code) good.0);
       small = (small.0, subst (λ (is : List Instr). IsSmallCode (code_of is)) (sym code) good.1);
       valid = code_valid (appended m s.type (record s.body { code = new_code m name new h }) name) s.kind s.body (new_code m name new h) _ code
@@ -89,7 +88,7 @@ pub slice_short : SliceIsShort
 slice_short m name new h =
     let code = code_is m name new h in
     let le = cut_size (callees m) h.sliced.kept (code_of h.sliced.body.code) 0 (old_small m name new h).1 in
-    let all = appended_size m h.sliced.type h.func h.sliced.body (new_code m name new h) name (own_body m h.func h.sliced.body h.flat.only.no_imports h.sliced.has_body)
+    let all = appended_size m h.sliced.type h.func h.sliced.body (new_code m name new h) name (of_own m m.bodies h.func h.sliced.body h.flat.only.no_imports h.sliced.has_body)
     (subst (λ (is : List Instr). length (canon_code (code_of is)) ≤ 4 * length (canon_code (code_of h.sliced.body.code))) (sym code) le) in
     subst (λ (n : Module). length (canon n) ≤ 5 * length (canon m) + length name.bytes + 64) (sym (new_is m name new h)) all
 
@@ -104,7 +103,7 @@ slice_spelled m name new h lt lt' =
 few_before : (m : Module) (name : Name) (new : Module) (h : IsNamedSlice m name new) → count (code_of (new_code m name new h)) ≤ 200000
 few_before m name new h =
     let code = code_is m name new h in
-    let few = few_positions m h.func h.sliced.body h.flat (own_body m h.func h.sliced.body h.flat.only.no_imports h.sliced.has_body) in
+    let few = few_positions m h.func h.sliced.body h.flat (of_own m m.bodies h.func h.sliced.body h.flat.only.no_imports h.sliced.has_body) in
     let long = cut_length (callees m) h.sliced.kept (within m (local_types h.sliced.kind h.sliced.body) h.sliced.kind.results) (h.sliced.kind.results ∷ []) (code_of h.sliced.body.code) 0 [] h.sliced.kind.results (old_small m name new h).1 (old_valid m name new h) in
     let counted = small_count (new_code m name new h) (fits m name new h).small.1 in
     let same = ap length code in

@@ -3,21 +3,21 @@ use Rattle.std.specs.Prelude.{◌≡◌, ◌⊎◌, ℕ, ◌+◌, ◌≤◌, Lis
 use Rattle.std.specs.declared.option.Option.{Option}
 use Rattle.outside_io.specs.Causes.{Rose}
 use Rattle.outside_io.specs.Whole.{Took, TookAll, TookAtMost}
+use Rattle.report_text.specs.declared.report.Report.TheVariants.{Words, TooLong, Unbuilt, ReadFault}
+use Rattle.report_text.specs.Lines.{line_of}
 use Rattle.wasm_types.specs.declared.module.Module.{Module}
 use Rattle.wasm_types.specs.declared.module.Name.{Name}
 use Rattle.wasm_types.specs.Canon.{canon}
 use Rattle.wasm_types.specs.WellFormed.{ProperName}
-use Rattle.wasm_decode.specs.declared.refusal.DecodeEnd.{DecodeEnd}
 use Rattle.wasm_decode.specs.Decode.{Decodes}
-use Rattle.wassail_top.specs.declared.refusal.Refusal.{Refusal}
-use Rattle.wassail_top.specs.declared.refusal.Refusal.TheVariants.{Words, TooLong, Unbuilt, ReadFault}
-use Rattle.wassail_top.specs.declared.slice.SliceRefusal.{SliceRefusal}
+use Rattle.wasm_validate.specs.Admission as admission
+use Rattle.wasm_validate.specs.Admission.{IsAdmitted}
 use Rattle.wassail_top.specs.Flat.{IsFlat}
 use Rattle.wassail_top.specs.Sliced.{func_count, IsSliced}
 use Rattle.wassail_top.specs.Slices.{HasExport, Refuses}
 use Rattle.wassail_top.specs.Orders.{Order, IsReader, most_name_bytes}
-use Rattle.wassail_top.specs.Orders.Order.{rewrite, slice}
-use Rattle.wassail_top.specs.Refusals.{Answer, line_of, refused, told_as, slice_told_as}
+use Rattle.wassail_top.specs.Orders.Order.{check, rewrite, slice}
+use Rattle.wassail_top.specs.Refusals.{Answer, refused, IsRefused, decode_told_as, admit_told_as, slice_told_as}
 use Rattle.wassail_top.specs.Words.{order_of}
 
 -- the greatest number of bytes that a module may have
@@ -48,23 +48,26 @@ pub record IsSlicedAs (m : Module) (f i : ℕ) (name : List ℕ) (answer : Answe
 
 -- what `slice` answers about a flat module: the first refusal that holds, or the slice
 abbrev pub AnswersFlat : ℕ → ℕ → List ℕ → Module → Answer → Type 0
-AnswersFlat f i name m answer =
-    ((cause : SliceRefusal) × (refusal : Refusal) × Refuses m f i name cause × (slice_told_as f i cause ≡ Some refusal) × (answer ≡ refused refusal))
-    ⊎ IsSlicedAs m f i name answer
+AnswersFlat f i name m answer = IsRefused (Refuses m f i name) (slice_told_as f i) answer ⊎ IsSlicedAs m f i name answer
 
 -- what `slice` answers about a module
 abbrev pub AnswersSlice : ℕ → ℕ → List ℕ → Module → Answer → Type 0
 AnswersSlice f i name m answer = ((IsFlat m → ⊥) × (answer ≡ refused Unbuilt)) ⊎ (IsFlat m × AnswersFlat f i name m answer)
 
--- what a command answers about a module
+-- what a command answers about a module that is valid, without a float and within the limits
+abbrev pub AnswersAdmitted : Order → Module → Answer → Type 0
+AnswersAdmitted check m answer = answer ≡ bytes_alone (line_of (codes "valid" ∷ []))
+AnswersAdmitted rewrite m answer = answer ≡ bytes_alone (canon m)
+AnswersAdmitted (slice func at name) m answer = AnswersSlice func at name m answer
+
+-- what a command answers about a module: the first refusal to admit it that holds, or its own answer
 abbrev pub AnswersModule : Order → Module → Answer → Type 0
-AnswersModule rewrite m answer = answer ≡ bytes_alone (canon m)
-AnswersModule (slice func at name) m answer = AnswersSlice func at name m answer
+AnswersModule order m answer = IsRefused (admission.Refuses m) admit_told_as answer ⊎ (IsAdmitted m × AnswersAdmitted order m answer)
 
 -- what a command answers about the bytes that it has read
 abbrev pub AnswersBytes : Order → List ℕ → Answer → Type 0
 AnswersBytes order bytes answer =
-    ((end : DecodeEnd) × (refusal : Refusal) × Decodes bytes (Err end) × (told_as end ≡ Some refusal) × (answer ≡ refused refusal))
+    IsRefused (λ end. Decodes bytes (Err end)) decode_told_as answer
     ⊎ ((m : Module) × Decodes bytes (Ok m) × AnswersModule order m answer)
 
 -- what a command that reads answers, by what the source had left and what it has left now
@@ -75,6 +78,7 @@ AnswersRead order old new answer =
 
 -- what a command answers
 abbrev pub AnswersOrder : Order → Option (List ℕ) → Option (List ℕ) → Answer → Type 0
+AnswersOrder check old new answer = AnswersRead check old new answer
 AnswersOrder rewrite old new answer = AnswersRead rewrite old new answer
 AnswersOrder (slice func at name) old new answer = AnswersRead (slice func at name) old new answer
 

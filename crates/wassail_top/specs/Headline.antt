@@ -3,6 +3,7 @@ use Rattle.std.specs.Prelude.{◌≡◌, ℕ, List, [], ◌∷◌, codes, decima
 use Rattle.std.specs.declared.option.Option.{Option}
 use Rattle.std.specs.Io.KnownBytes.{Appends}
 use Rattle.outside_io.specs.Whole.{TookAll}
+use Rattle.report_text.specs.Lines.{line_of}
 use Rattle.wasm_types.specs.declared.module.Module.{Module}
 use Rattle.wasm_types.specs.declared.module.Value.{Value}
 use Rattle.wasm_types.specs.Canon.{canon}
@@ -15,7 +16,6 @@ use Rattle.wasm_meaning.specs.Run.{Event}
 use Rattle.wasm_meaning.specs.Invoke.{Returns}
 use Rattle.wassail_top.specs.Answers.{name_of}
 use Rattle.wassail_top.specs.Law.{ArgsFit, ReturnsToo}
-use Rattle.wassail_top.specs.Refusals.{line_of}
 use Rattle.wassail_top.specs.Sliced.{func_count, IsSliced}
 
 -- the canonical spelling decodes as the module, and spells no other

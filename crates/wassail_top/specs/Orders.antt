@@ -2,18 +2,21 @@
 use Rattle.std.specs.Prelude.{ℕ, ◌≤◌, List, length, ⊤}
 use Rattle.std.specs.String.{string_bytes}
 use Rattle.wassail_top.specs.declared.words.Command.{Command}
-use Rattle.wassail_top.specs.declared.words.Command.TheVariants.{Rewrite, Slice}
+use Rattle.wassail_top.specs.declared.words.Command.TheVariants.{Check, Rewrite, Slice}
 
 pub data Order : Type 0 where
+  check : Order
   rewrite : Order
   slice : (func at : ℕ) (name : List ℕ) → Order
 
 abbrev pub order_read : Command → Order
+order_read Check = check
 order_read Rewrite = rewrite
 order_read (Slice func at name) = slice func at (string_bytes name)
 
 -- the command reads a module
 abbrev pub IsReader : Order → Type 0
+IsReader check = ⊤
 IsReader rewrite = ⊤
 IsReader (slice func at name) = ⊤
 
@@ -23,5 +26,6 @@ most_name_bytes = 65536
 
 -- the name that is asked for isn't too long
 abbrev pub HasShortName : Order → Type 0
+HasShortName check = ⊤
 HasShortName rewrite = ⊤
 HasShortName (slice func at name) = length name ≤ most_name_bytes

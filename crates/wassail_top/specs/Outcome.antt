@@ -3,7 +3,7 @@ use Rattle.std.specs.Prelude.{◌≡◌, ◌⊎◌, ℕ, List, Some}
 use Rattle.std.specs.declared.option.Option.{Option}
 use Rattle.std.specs.Io.KnownBytes.{Appends, Keeps}
 use Rattle.outside_io.specs.Whole.{GavePrefix}
-use Rattle.wassail_top.specs.declared.refusal.Refusal.TheVariants.{ReadFault}
+use Rattle.report_text.specs.declared.report.Report.TheVariants.{ReadFault}
 use Rattle.wassail_top.specs.Answers.{Answers, IsDue, FailedToRead}
 use Rattle.wassail_top.specs.Orders.{Order, IsReader}
 use Rattle.wassail_top.specs.Refusals.{Answer, refused}

@@ -3,7 +3,7 @@ use Rattle.std.specs.Prelude.{ℕ, ◌+◌, ◌-◌, ◌*◌, ◌^◌, List, [],
 use Rattle.std.specs.Str.{bytes_eq}
 use Rattle.std.specs.declared.option.Option.{Option}
 use Rattle.wassail_top.specs.Orders.{Order, most_name_bytes}
-use Rattle.wassail_top.specs.Orders.Order.{rewrite, slice}
+use Rattle.wassail_top.specs.Orders.Order.{check, rewrite, slice}
 
 -- the value of digits after others whose value is n, where it stays below 2^32
 abbrev pub value_from : ℕ → List ℕ → Option ℕ
@@ -28,7 +28,8 @@ two_and_name order words = None
 -- the command with this name and these words after it
 abbrev pub order_named : List ℕ → List (List ℕ) → Option Order
 order_named name rest =
-    if bytes_eq name (codes "rewrite") then alone rewrite rest
+    if bytes_eq name (codes "check") then alone check rest
+    else if bytes_eq name (codes "rewrite") then alone rewrite rest
     else if bytes_eq name (codes "slice") then two_and_name slice rest
     else None
 

@@ -2,24 +2,28 @@
 ghost use Rattle.std.specs.Prelude.{◌≡◌, ◌≤◌, ◌<◌, ◌^◌, None, length, map, IfOk};
 ghost use Rattle.std.specs.String.{string_bytes};
 ghost use Rattle.wasm_types.specs.Canon.{canon};
+ghost use Rattle.wasm_types.specs.Subset.{NestsAtMost, most_nesting};
 ghost use Rattle.wasm_types.specs.WellFormed.{IsWellFormed};
-ghost use Rattle.wassail_top.specs.Answers.{IsDue, IsReadDue, AnswersBytes, AnswersFlat, AnswersModule, AnswersSlice, most_bytes, slice_answer};
+ghost use Rattle.wasm_validate.specs.Admission.{IsAdmitted};
+ghost use Rattle.wassail_top.specs.Answers.{IsDue, IsReadDue, AnswersAdmitted, AnswersBytes, AnswersFlat, AnswersModule, AnswersSlice, most_bytes, slice_answer};
 ghost use Rattle.wassail_top.specs.Flat.{IsFlat};
 ghost use Rattle.wassail_top.specs.Orders.{HasShortName, IsReader, most_name_bytes, order_read};
-ghost use Rattle.wassail_top.specs.Refusals.{refused, slice_told_as, told_as};
+ghost use Rattle.wassail_top.specs.Refusals.{refused};
 ghost use Rattle.wassail_top.specs.Reply.{reply_answer};
 ghost use Rattle.wassail_top.specs.Words.{order_of};
 
 use crate::flat::is_flat;
-use crate::refusal::Refusal;
-use crate::slice::{SliceRefusal, Sliced, slice};
+use crate::slice::{Sliced, slice};
 use crate::status::Status;
+use crate::told::{admit_report_of, decode_report_of, slice_report_of};
 use crate::words::{Command, WordsEnd, parse_words};
 use outside_io::{ReadEnd, Source, read_all};
+use report_text::{Report, refusal_text};
 use std::alloc::Global;
-use wasm_decode::{DecodeEnd, decode};
+use wasm_decode::decode;
 use wasm_encode::encode;
 use wasm_types::{Module, NoMemory, Pos};
+use wasm_validate::admit;
 
 /// A status, and what out and err get.
 #[derive(Drop)]
@@ -41,7 +45,7 @@ pub fn due<S: Source>(alloc: Global, words: &[String], source: &mut S) -> Result
 {
     match parse_words(alloc, words) {
         Ok(command) => read_and_answer(alloc, &command, source),
-        Err(WordsEnd::Refused) => refuse(alloc, Refusal::Words),
+        Err(WordsEnd::Refused) => refuse(alloc, Report::Words),
         Err(WordsEnd::Memory) => Err(NoMemory),
     }
 }
@@ -61,8 +65,8 @@ fn read_and_answer<S: Source>(
 {
     match read_all(alloc, source, MOST_BYTES) {
         Ok(bytes) => answer_bytes(alloc, command, &bytes),
-        Err(ReadEnd::TooLong) => refuse(alloc, Refusal::TooLong),
-        Err(ReadEnd::Fault) => refuse(alloc, Refusal::ReadFault),
+        Err(ReadEnd::TooLong) => refuse(alloc, Report::TooLong),
+        Err(ReadEnd::Fault) => refuse(alloc, Report::ReadFault),
         Err(ReadEnd::Memory) => Err(NoMemory),
     }
 }
@@ -75,35 +79,43 @@ fn answer_bytes(alloc: Global, command: &Command, bytes: &[u8]) -> Result<Reply,
 {
     match decode(alloc, bytes) {
         Ok(form) => answer_module(alloc, command, form),
-        Err(end) => match refusal_of(end) {
-            Some(refusal) => refuse(alloc, refusal),
+        Err(end) => match decode_report_of(end) {
+            Some(report) => refuse(alloc, report),
             None => Err(NoMemory),
         },
     }
 }
 
-// What a refusal of the decoder is told as: none where it is want of memory.
-fn refusal_of(end: DecodeEnd) -> Option<Refusal>
-    ensures { result ≡ told_as end }
-{
-    match end {
-        DecodeEnd::Header => Some(Refusal::Header),
-        DecodeEnd::Frame { k } => Some(Refusal::Frame { k }),
-        DecodeEnd::Section { k, id } => Some(Refusal::Section { k, id }),
-        DecodeEnd::TooDeep { id, entry } => Some(Refusal::TooDeep { id, entry }),
-        DecodeEnd::Counts => Some(Refusal::Counts),
-        DecodeEnd::Memory => None,
-    }
-}
-
-// What a command answers about a module.
+// What a command answers about a module: the first refusal to admit it, or the command's own answer.
 fn answer_module(alloc: Global, command: &Command, form: Module) -> Result<Reply, NoMemory>
     requires well_formed { IsWellFormed form }
     requires short { length (canon form) ≤ most_bytes }
+    requires nesting { NestsAtMost most_nesting form }
     requires name { HasShortName (order_read command.now) }
     ensures { IfOk result (λ reply. AnswersModule (order_read command.now) form (reply_answer reply)) }
 {
+    match admit(alloc, form) {
+        Ok(valid) => answer_admitted(alloc, command, valid.into_module()),
+        Err((_, end)) => match admit_report_of(end) {
+            Some(report) => refuse(alloc, report),
+            None => Err(NoMemory),
+        },
+    }
+}
+
+// What a command answers about an admitted module.
+fn answer_admitted(alloc: Global, command: &Command, form: Module) -> Result<Reply, NoMemory>
+    requires admitted { IsAdmitted form }
+    requires short { length (canon form) ≤ most_bytes }
+    requires name { HasShortName (order_read command.now) }
+    ensures { IfOk result (λ reply. AnswersAdmitted (order_read command.now) form (reply_answer reply)) }
+{
     match command {
+        Command::Check => Ok(Reply {
+            status: Status::Answered,
+            out: format!(in alloc; "valid\n")?.into_bytes(),
+            err: Vec::new(alloc),
+        }),
         Command::Rewrite => Ok(Reply {
             status: Status::Answered,
             out: encode(alloc, &form)?,
@@ -113,7 +125,7 @@ fn answer_module(alloc: Global, command: &Command, form: Module) -> Result<Reply
     }
 }
 
-// What `slice` answers about a module.
+// What `slice` answers about an admitted module.
 fn answer_slice(
     alloc: Global,
     form: Module,
@@ -121,16 +133,15 @@ fn answer_slice(
     at: u32,
     name: &str,
 ) -> Result<Reply, NoMemory>
-    requires well_formed { IsWellFormed form }
+    requires admitted { IsAdmitted form }
     requires short { length (canon form) ≤ most_bytes }
     requires name { length name.now ≤ most_name_bytes }
     ensures { IfOk result (λ reply. AnswersSlice func at name.now form (reply_answer reply)) }
 {
-    let flat = is_flat(alloc, &form)?;
-    if flat {
+    if is_flat(&form) {
         slice_flat(alloc, form, func, at, name)
     } else {
-        refuse(alloc, Refusal::Unbuilt)
+        refuse(alloc, Report::Unbuilt)
     }
 }
 
@@ -149,8 +160,8 @@ fn slice_flat(
 {
     match slice(alloc, form, func, Pos(at), name) {
         Ok(sliced) => tell_slice(alloc, &sliced),
-        Err(cause) => match slice_refusal_of(cause, func, at) {
-            Some(refusal) => refuse(alloc, refusal),
+        Err(cause) => match slice_report_of(cause, func, at) {
+            Some(report) => refuse(alloc, report),
             None => Err(NoMemory),
         },
     }
@@ -173,25 +184,13 @@ fn tell_slice(alloc: Global, sliced: &Sliced) -> Result<Reply, NoMemory>
     })
 }
 
-// What a refusal to slice is told as: none where it is want of memory.
-fn slice_refusal_of(cause: SliceRefusal, func: u32, at: u32) -> Option<Refusal>
-    ensures { result ≡ slice_told_as func at cause }
-{
-    match cause {
-        SliceRefusal::NoFunction => Some(Refusal::NoFunction { func }),
-        SliceRefusal::NoInstruction { count } => Some(Refusal::NoInstruction { at, count }),
-        SliceRefusal::NameTaken => Some(Refusal::NameTaken),
-        SliceRefusal::Memory => None,
-    }
-}
-
 // Nothing for out, and a line for err.
-fn refuse(alloc: Global, refusal: Refusal) -> Result<Reply, NoMemory>
-    ensures { IfOk result (λ reply. reply_answer reply ≡ refused refusal) }
+fn refuse(alloc: Global, report: Report) -> Result<Reply, NoMemory>
+    ensures { IfOk result (λ reply. reply_answer reply ≡ refused report) }
 {
     Ok(Reply {
-        status: refusal.status(),
+        status: Status::of(report),
         out: Vec::new(alloc),
-        err: refusal.line(alloc)?.into_bytes(),
+        err: refusal_text(alloc, &report)?,
     })
 }

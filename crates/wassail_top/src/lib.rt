@@ -7,10 +7,10 @@ mod deliver;
 mod due;
 mod flat;
 mod laws;
-mod refusal;
 mod slice;
 mod slice_laws;
 mod status;
+mod told;
 mod top;
 mod words;
 

@@ -1,13 +1,15 @@
 // How the program ends.
 ghost use Rattle.std.specs.Prelude.{◌≡◌};
-ghost use Rattle.wassail_top.specs.Statuses.{status_code};
+ghost use Rattle.wassail_top.specs.Statuses.{refusal_status, status_code};
+
+use report_text::Report;
 
 /// How the program ends.
 #[derive(Clone, Copy, Debug, PartialEq, Eq)]
 pub enum Status {
     /// The answer was written.
     Answered,
-    /// The bytes that were read are too many, or no module that is read today.
+    /// The bytes that were read are too many, or no module that is analysed.
     ModuleRefused,
     /// The words are no command.
     WordsRefused,
@@ -34,6 +36,29 @@ impl Status {
             Status::WriteFailed => 4,
             Status::NoMemory => 5,
             Status::QueryRefused => 6,
+        }
+    }
+
+    /// The status that tells of a refusal.
+    pub fn of(report: Report) -> Status
+        ensures { status_code result ≡ refusal_status report }
+    {
+        match report {
+            Report::Words => Status::WordsRefused,
+            Report::ReadFault => Status::ReadFailed,
+            Report::TooLong
+            | Report::Header
+            | Report::Frame { .. }
+            | Report::Section { .. }
+            | Report::TooDeep { .. }
+            | Report::Counts
+            | Report::Float { .. }
+            | Report::Limit { .. }
+            | Report::Invalid { .. } => Status::ModuleRefused,
+            Report::Unbuilt
+            | Report::NoFunction { .. }
+            | Report::NoInstruction { .. }
+            | Report::NameTaken => Status::QueryRefused,
         }
     }
 }

@@ -107,7 +107,16 @@ fn rewrites_one_function(rt: HostRuntime) -> Result<(), Fail> {
     Ok(())
 }
 
-// The first bytes of the addition, by how many there are, and what is answered: a module that is rewritten as itself, or a line.
+// What `check` gives: the line of a refusal, or where there is none that the module is valid.
+fn checked(rt: &HostRuntime, line: &str) -> Result<Ending, Fail> {
+    if line.is_empty() {
+        expected(rt, 0, 0, b"valid\n", "")
+    } else {
+        expected(rt, 1, 0, b"", line)
+    }
+}
+
+// The first bytes of the addition, by how many there are, and the line that tells of them: none where they are a valid module.
 #[test]
 fn tells_where_a_module_is_cut_off(rt: HostRuntime) -> Result<(), Fail> {
     let lines = [
@@ -121,18 +130,85 @@ fn tells_where_a_module_is_cut_off(rt: HostRuntime) -> Result<(), Fail> {
             "wassail: module refused: function and code sections differ in count\n",
         ),
         (22..32, "wassail: module refused: section 2 has no frame\n"),
+        (32..33, ""),
     ];
     for (lengths, line) in lines {
         for length in lengths {
             let bytes = &ADD[..ADD.len().min(length)];
-            let got = end(&rt, &["rewrite"], bytes, NEVER, NEVER)?;
-            if line.is_empty() {
-                assert_eq!(rt; got, expected(&rt, 0, 0, bytes, "")?);
-            } else {
-                assert_eq!(rt; got, expected(&rt, 1, 0, b"", line)?);
-            }
+            let got = end(&rt, &["check"], bytes, NEVER, NEVER)?;
+            assert_eq!(rt; got, checked(&rt, line)?);
         }
     }
+    Ok(())
+}
+
+// `() -> i32` with `i32.const 1; br 0; i64.const 0`, which leaves an i64 too many.
+const INVALID: &[u8] =
+    b"\0asm\x01\0\0\0\x01\x05\x01\x60\x00\x01\x7F\x03\x02\x01\x00\x0A\x0A\x01\x08\x00\x41\x01\x0C\x00\x42\x00\x0B";
+
+// A float comes before what isn't valid, and unreachable code is typed: `unreachable; f64.const 0; drop`, `f64.const 0` and
+// `unreachable; i32.add; drop`, each of `() -> ()`, and what leaves a value of another type.
+#[test]
+fn checks_modules_of_one_function(rt: HostRuntime) -> Result<(), Fail> {
+    let float = "wassail: module refused: float type or instruction in function 0\n";
+    let cases: [(&[u8], &str); 4] = [
+        (
+            b"\0asm\x01\0\0\0\x01\x04\x01\x60\x00\x00\x03\x02\x01\x00\x0A\x0F\x01\x0D\x00\x00\x44\0\0\0\0\0\0\0\0\x1A\x0B",
+            float,
+        ),
+        (
+            b"\0asm\x01\0\0\0\x01\x04\x01\x60\x00\x00\x03\x02\x01\x00\x0A\x0D\x01\x0B\x00\x44\0\0\0\0\0\0\0\0\x0B",
+            float,
+        ),
+        (
+            b"\0asm\x01\0\0\0\x01\x04\x01\x60\x00\x00\x03\x02\x01\x00\x0A\x07\x01\x05\x00\x00\x6A\x1A\x0B",
+            "",
+        ),
+        (INVALID, "wassail: module refused: invalid function 0\n"),
+    ];
+    for (bytes, line) in cases {
+        let got = end(&rt, &["check"], bytes, NEVER, NEVER)?;
+        assert_eq!(rt; got, checked(&rt, line)?);
+    }
+    Ok(())
+}
+
+#[test]
+fn rewrites_no_invalid_module(rt: HostRuntime) -> Result<(), Fail> {
+    let got = end(&rt, &["rewrite"], INVALID, NEVER, NEVER)?;
+    assert_eq!(rt;
+        got,
+        expected(
+            &rt,
+            1,
+            0,
+            b"",
+            "wassail: module refused: invalid function 0\n"
+        )?
+    );
+    Ok(())
+}
+
+// A module of one type, with this type section up to the parameters, so many of them and no results.
+fn with_params(rt: &HostRuntime, head: &[u8], params: u32) -> Result<Vec<u8>, Fail> {
+    let mut bytes = HEADER.to_vec(rt.alloc())?;
+    bytes.extend_from_slice(head)?;
+    for _ in 0..params {
+        bytes.push(0x7F)?;
+    }
+    bytes.push(0)?;
+    Ok(bytes)
+}
+
+#[test]
+fn refuses_one_parameter_too_many(rt: HostRuntime) -> Result<(), Fail> {
+    let most = with_params(&rt, b"\x01\x44\x01\x60\x40", 64)?;
+    let got = end(&rt, &["check"], &most, NEVER, NEVER)?;
+    assert_eq!(rt; got, checked(&rt, "")?);
+    let more = with_params(&rt, b"\x01\x45\x01\x60\x41", 65)?;
+    let got = end(&rt, &["check"], &more, NEVER, NEVER)?;
+    let line = "wassail: module refused: limit: type 0 has 65 parameters\n";
+    assert_eq!(rt; got, checked(&rt, line)?);
     Ok(())
 }
 
@@ -141,6 +217,7 @@ fn refuses_words_and_reads_nothing(rt: HostRuntime) -> Result<(), Fail> {
     let none: [&str; 0] = [];
     for words in [
         none.as_slice(),
+        &["check", "0"],
         &["rewrite", "0"],
         &["Rewrite"],
         &[""],
@@ -231,8 +308,8 @@ fn refuses_what_is_not_there_to_slice(rt: HostRuntime) -> Result<(), Fail> {
 fn rewrites_long_spellings(rt: HostRuntime) -> Result<(), Fail> {
     let cases: [(&[u8], &[u8]); 3] = [
         (
-            b"\0asm\x01\0\0\0\x01\x04\x01\x60\x00\x00\x03\x02\x01\x00\x0A\x0B\x01\x09\x00\x11\x00\x80\x80\x80\x80\x00\x0B",
-            b"\0asm\x01\0\0\0\x01\x04\x01\x60\x00\x00\x03\x02\x01\x00\x0A\x07\x01\x05\x00\x11\x00\x00\x0B",
+            b"\0asm\x01\0\0\0\x01\x04\x01\x60\x00\x00\x03\x02\x01\x00\x04\x04\x01\x70\x00\x00\x0A\x0D\x01\x0B\x00\x41\x00\x11\x00\x80\x80\x80\x80\x00\x0B",
+            b"\0asm\x01\0\0\0\x01\x04\x01\x60\x00\x00\x03\x02\x01\x00\x04\x04\x01\x70\x00\x00\x0A\x09\x01\x07\x00\x41\x00\x11\x00\x00\x0B",
         ),
         (
             b"\0asm\x01\0\0\0\x01\x05\x01\x60\x00\x01\x7E\x03\x02\x01\x00\x0A\x0F\x01\x0D\x00\x42\xFF\xFF\xFF\xFF\xFF\xFF\xFF\xFF\xFF\x7F\x0B",
@@ -259,6 +336,8 @@ fn reads_no_byte_more_than_the_greatest_length(rt: HostRuntime) -> Result<(), Fa
     bytes.extend_from_slice(&zeros)?;
     let got = end_in_pieces(&rt, &["rewrite"], &bytes, 1048576, NEVER, NEVER)?;
     assert_eq!(rt; got, expected(&rt, 0, 0, HEADER, "")?);
+    let got = end_in_pieces(&rt, &["check"], &bytes, 1048576, NEVER, NEVER)?;
+    assert_eq!(rt; got, checked(&rt, "")?);
     bytes.push(0)?;
     let got = end_in_pieces(&rt, &["rewrite"], &bytes, 1048576, NEVER, NEVER)?;
     assert_eq!(rt; got.status, 1);
@@ -287,11 +366,13 @@ fn nested(rt: &HostRuntime, head: &[u8], blocks: u32) -> Result<Vec<u8>, Fail> {
 #[test]
 fn refuses_one_block_too_deep(rt: HostRuntime) -> Result<(), Fail> {
     let deepest = nested(&rt, b"\x0A\x85\x18\x01\x82\x18\x00", 1024)?;
-    let got = end(&rt, &["rewrite"], &deepest, NEVER, NEVER)?;
-    assert_eq!(rt; got, expected(&rt, 0, 0, &deepest, "")?);
+    let got = end(&rt, &["check"], &deepest, NEVER, NEVER)?;
+    assert_eq!(rt; got, checked(&rt, "")?);
+    let again = end(&rt, &["rewrite"], &deepest, NEVER, NEVER)?;
+    assert_eq!(rt; again, expected(&rt, 0, 0, &deepest, "")?);
     let deeper = nested(&rt, b"\x0A\x88\x18\x01\x85\x18\x00", 1025)?;
-    let got = end(&rt, &["rewrite"], &deeper, NEVER, NEVER)?;
+    let got = end(&rt, &["check"], &deeper, NEVER, NEVER)?;
     let line = "wassail: module refused: nesting over 1024 in section id 10 entry 0\n";
-    assert_eq!(rt; got, expected(&rt, 1, 0, b"", line)?);
+    assert_eq!(rt; got, checked(&rt, line)?);
     Ok(())
 }

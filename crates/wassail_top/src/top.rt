@@ -6,7 +6,8 @@ ghost use Rattle.std.specs.Io.KnownBytes.{Keeps};
 ghost use Rattle.outside_io.specs.Causes.{Rose};
 ghost use Rattle.wasm_types.specs.declared.module.Module.{Module};
 ghost use Rattle.wasm_types.specs.Modules.{Spells};
-ghost use Rattle.wasm_types.specs.Subset.{NestsAtMost, most_nesting};
+ghost use Rattle.wasm_types.specs.Subset.{InSubset};
+ghost use Rattle.wasm_types.specs.Validity.{IsValid};
 ghost use Rattle.wassail_top.specs.Answers.{Answers, most_bytes};
 ghost use Rattle.wassail_top.specs.Headline.{SliceHolds};
 ghost use Rattle.wassail_top.specs.Orders.Order.{slice};
@@ -59,9 +60,10 @@ pub fn wassail<S: Source, O: Sink, E: Sink>(
         → ¬ Rose (E.faults err.old) (E.faults err.new) → (result ≡ 5) ⊎ Answered (map string_bytes words.now)
         (S.left source.old) (S.left source.new) (O.held out.old) (O.held out.new) (E.held err.old) (E.held err.new) result }
 
-    // So the word `rewrite`, a module that isn't too long and nests within the limit, and no fault give status 0, unless memory is wanted.
-    ensures rewrites { (bytes : List ℕ) (m : Module) → map string_bytes words.now ≡ codes "rewrite" ∷ []
-        → S.left source.old ≡ Some bytes → length bytes ≤ most_bytes → Spells bytes m → NestsAtMost most_nesting m
+    // So the word `check` or `rewrite`, a valid module of the subset that isn't too long, and no fault give status 0, unless memory is wanted.
+    ensures valid_succeeds { (bytes : List ℕ) (m : Module)
+        → (map string_bytes words.now ≡ codes "check" ∷ []) ⊎ (map string_bytes words.now ≡ codes "rewrite" ∷ [])
+        → S.left source.old ≡ Some bytes → length bytes ≤ most_bytes → Spells bytes m → IsValid m → InSubset m
         → ¬ Rose (S.faults source.old) (S.faults source.new) → ¬ Rose (O.faults out.old) (O.faults out.new)
         → ¬ Rose (E.faults err.old) (E.faults err.new) → (result ≡ 0) ⊎ (result ≡ 5) }
 

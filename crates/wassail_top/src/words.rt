@@ -12,6 +12,8 @@ use thiserror::Error;
 /// What the program is asked to do.
 #[derive(Debug, Drop, PartialEq, Eq)]
 pub enum Command {
+    /// Tell whether the module is valid, has no float and keeps the limits.
+    Check,
     /// Write the module in its canonical spelling.
     Rewrite,
     /// Write the module with a slice of function `func` at position `at` appended, exported as `name`.
@@ -38,6 +40,7 @@ pub fn parse_words(alloc: Global, words: &[String]) -> Result<Command, WordsEnd>
         return Err(WordsEnd::Refused);
     };
     match name.as_str() {
+        "check" => parse_alone(Command::Check, rest),
         "rewrite" => parse_alone(Command::Rewrite, rest),
         "slice" => parse_slice(alloc, rest),
         _ => Err(WordsEnd::Refused),

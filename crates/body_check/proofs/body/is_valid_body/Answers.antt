@@ -1,5 +1,5 @@
-use Rattle.std.proofs.Common.{◌≡◌, ◌++◌, ◌∙◌, ap, sym}
-use Rattle.wasm_types.specs.Spaces.{run_types, local_types}
+use Rattle.std.proofs.Common.{◌≡◌, ◌∙◌, ap}
+use Rattle.wasm_types.specs.Spaces.{local_types}
 use Rattle.wasm_types.specs.Validity.{values_of}
 use Rattle.body_check.proofs.BodyLemmas.{one-value, valid-body}
 use Rattle.body_check.proofs.body.is_valid_body.Goals as goal

@@ -1,10 +1,9 @@
-use Rattle.std.proofs.Common.{◌≡◌, ◌<◌, ◌+◌, ◌∙◌, List, length, drop, true, false, refl, arith, sym, ap, subst}
+use Rattle.std.proofs.Common.{◌≡◌, ◌<◌, ◌+◌, ◌∙◌, List, length, drop, true, false, refl, arith, sym, subst}
 use Rattle.std.proofs.Math.ListN.{drop_of_length-le}
 use Rattle.wasm_types.specs.declared.instr.Instr.{Instr}
-use Rattle.wasm_types.specs.Code.{Code, done, onto, code_of, is_leaf}
+use Rattle.wasm_types.specs.Code.{Code, code_of, is_leaf}
 use Rattle.wasm_types.specs.Validity.{Leads}
 use Rattle.wasm_types.proofs.CodeLemmas.{leaf_is, count-next, code-next}
-use Rattle.body_check.specs.declared.stack.Stack.{Stack}
 use Rattle.body_check.specs.Labels.{labels_of}
 use Rattle.body_check.specs.Signatures.{context_of}
 use Rattle.body_check.specs.Stacks.{Fails, Follows, Exact}

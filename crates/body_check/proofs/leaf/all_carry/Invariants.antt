@@ -1,4 +1,4 @@
-use Rattle.std.proofs.Common.{◌≡◌, ◌<◌, ℕ, All, Some, reverse, take}
+use Rattle.std.proofs.Common.{◌≡◌, All, Some, reverse, take}
 use Rattle.std.specs.List.{slice_get}
 use Rattle.body_check.proofs.leaf.all_carry.Given as goal
 

@@ -1,12 +1,12 @@
-use Rattle.std.proofs.Common.{◌≡◌, ◌∙◌, ℕ, List, All, reverse, true≢false, Some, None, ◌∷◌, ap, sym, subst}
+use Rattle.std.proofs.Common.{◌≡◌, ◌∙◌, ℕ, List, All, reverse, true≢false, Some, ◌∷◌, sym, subst}
 use Rattle.std.specs.List.{slice_get}
 use Rattle.wasm_types.specs.declared.module.ValType.TheVariants.{I32}
 use Rattle.wasm_types.specs.declared.instr.Instr.TheVariants as v
 use Rattle.wasm_types.specs.Validity.{values_of}
 use Rattle.body_check.specs.Labels.{labels_of}
 use Rattle.body_check.specs.Signatures.{context_of}
-use Rattle.body_check.specs.Stacks.{PopsOne, Turns, Leaves, Selects}
-use Rattle.body_check.proofs.LeafLemmas.{label-known, label-none, label-carries, all-as, at-instr, br-follows, br-none, br_if-follows, br_if-none, br_table-follows, br_table-none, br_table-differ, drop-follows, select-follows, IsPlain, other-follows, other-fails, ok-follows, fails-at}
+use Rattle.body_check.specs.Stacks.{Turns, Selects}
+use Rattle.body_check.proofs.LeafLemmas.{label-known, label-none, label-carries, all-as, at-instr, br_if-follows, br_if-none, br_table-follows, br_table-none, br_table-differ, drop-follows, select-follows, IsPlain, other-follows, other-fails, ok-follows, fails-at}
 use Rattle.body_check.proofs.leaf.check_leaf.Goals as goal
 
 pub returns-in-Some-label : goal.returns-in-Some-label

@@ -1,4 +1,4 @@
-use Rattle.std.proofs.Common.{◌∙◌, ap, sym}
+use Rattle.std.proofs.Common.{◌∙◌, ap}
 use Rattle.wasm_types.specs.Validity.{values_of}
 use Rattle.body_check.proofs.TypingLemmas.{one-result}
 use Rattle.body_check.proofs.typing.of_call.Goals as goal

@@ -1,4 +1,4 @@
-use Rattle.std.proofs.Common.{true, false, subst, sym}
+use Rattle.std.proofs.Common.{true, false}
 use Rattle.wasm_types.specs.declared.instr.Instr.TheVariants as v
 use Rattle.body_check.specs.Signatures.{context_of}
 use Rattle.body_check.proofs.TypingLemmas.{ok-has, get-has, set-has, tee-has, global-get-has, global-set-has}

@@ -1,6 +1,5 @@
-use Rattle.std.proofs.Common.{length, arith}
+use Rattle.std.proofs.Common.{arith}
 use Rattle.std.proofs.lemmas.List.Elements.{All-from_get_or}
-use Rattle.wasm_types.specs.Canon.{canon}
 use Rattle.wasm_types.specs.WellFormed.{IsU8}
 use Rattle.wasm_types.proofs.LeastLemmas.{canon_is_least}
 use Rattle.wasm_types.proofs.ProperLemmas.{spelled_well_formed}

@@ -1,11 +1,7 @@
-use Rattle.std.proofs.Common.{ℕ, List, IfOk, sym, subst}
-use Rattle.wassail_top.specs.declared.words.Command.{Command}
-use Rattle.wassail_top.specs.Answers.{AnswersModule, AnswersSlice}
-use Rattle.wassail_top.specs.Orders.{order_read}
-use Rattle.wassail_top.specs.Reply.{reply_answer}
+use Rattle.std.proofs.Common.{arith}
+use Rattle.wasm_types.proofs.SizeLemmas.{has_at_most, has_at_most_more}
+use Rattle.wassail_top.specs.Answers.{most_bytes}
 use Rattle.wassail_top.proofs.due.answer_module.Goals as goal
 
-pub returns-in-Slice : goal.returns-in-Slice
-returns-in-Slice c =
-    subst (λ (command : Command). IfOk c.answer_slice.result (λ reply. AnswersModule (order_read command) c.args.form (reply_answer reply))) (sym c.in-Slice.is)
-    (subst (λ (name : List ℕ). IfOk c.answer_slice.result (λ reply. AnswersSlice c.in-Slice.func c.in-Slice.at name c.args.form (reply_answer reply))) c.as_str.ensures.value c.answer_slice.ensures)
+pub admit-requires-clause-entries : goal.admit-requires-clause-entries
+admit-requires-clause-entries c = has_at_most_more most_bytes 0x7FFF_FFFF c.args.form (omega arith) (has_at_most c.args.form most_bytes c.requires.short)

@@ -3,7 +3,7 @@ use Rattle.std.specs.String.{string_bytes}
 use Rattle.std.proofs.lemmas.Result.{IfOk-weaker}
 use Rattle.wassail_top.specs.Orders.{order_read}
 use Rattle.wassail_top.specs.Reply.{reply_answer}
-use Rattle.wassail_top.proofs.Complete.{as_due}
+use Rattle.wassail_top.proofs.Reading.{as_due}
 use Rattle.wassail_top.proofs.due.due.Goals as goal
 
 pub returns-in-Ok-clause-due : goal.returns-in-Ok-clause-due

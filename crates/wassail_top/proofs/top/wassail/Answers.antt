@@ -1,8 +1,9 @@
 use Rattle.std.proofs.Common.{inl, ◌∙◌, map, sym}
 use Rattle.std.specs.String.{string_bytes}
+use Rattle.wasm_validate.specs.Admission.{IsAdmitted}
 use Rattle.wassail_top.specs.Reply.{reply_answer}
 use Rattle.wassail_top.proofs.Calm.{read_failed, refused_words, only_refused_words}
-use Rattle.wassail_top.proofs.Complete.{rewritten}
+use Rattle.wassail_top.proofs.Complete.{succeeds}
 use Rattle.wassail_top.proofs.HeadlineLemmas.{headline}
 use Rattle.wassail_top.proofs.top.wassail.Goals as goal
 
@@ -18,9 +19,11 @@ pub returns-in-Ok-deliver-clause-words_only : goal.returns-in-Ok-deliver-clause-
 returns-in-Ok-deliver-clause-words_only g c =
     λ two. only_refused_words (map string_bytes c.args.words.now) _ _ _ _ (reply_answer c.in-Ok.reply) c.in-Ok.ensures.due (sym c.code-in-Ok-deliver.ensures ∙ two)
 
-pub returns-in-Ok-deliver-clause-rewrites : goal.returns-in-Ok-deliver-clause-rewrites
-returns-in-Ok-deliver-clause-rewrites g c =
-    λ bytes m words left short spells shallow quiet _ _. inl (c.code-in-Ok-deliver.ensures ∙ rewritten _ bytes m _ _ _ _ (reply_answer c.in-Ok.reply) words left short (spells, shallow) quiet c.in-Ok.ensures.due)
+pub returns-in-Ok-deliver-clause-valid_succeeds : goal.returns-in-Ok-deliver-clause-valid_succeeds
+returns-in-Ok-deliver-clause-valid_succeeds g c =
+    λ bytes m words left short spells valid subset quiet _ _.
+    let admitted : IsAdmitted m = record { valid = valid; no_float = subset.no_float; limits = subset.limits } in
+    inl (c.code-in-Ok-deliver.ensures ∙ succeeds _ bytes m _ _ _ _ (reply_answer c.in-Ok.reply) words left short (spells, subset.nesting) admitted quiet c.in-Ok.ensures.due)
 
 pub returns-in-Ok-deliver-clause-slices : goal.returns-in-Ok-deliver-clause-slices
 returns-in-Ok-deliver-clause-slices g c =

@@ -1,6 +1,5 @@
-use Rattle.std.proofs.Common.{◌≡◌, ◌-◌, ◌+◌, ◌<◌, ◌∷◌, length, reverse, take, get_or, false, true, arith, sym, subst, ap}
+use Rattle.std.proofs.Common.{◌≡◌, ◌-◌, ◌+◌, ◌<◌, length, reverse, take, false, true, arith}
 use Rattle.wasm_types.specs.declared.module.ValType.TheVariants.{I32}
-use Rattle.body_check.specs.Stacks.{Fails, Follows, Pops}
 use Rattle.body_check.proofs.StackLemmas.{last-first, pops-more, pops-fail, pops-none}
 use Rattle.body_check.proofs.stack.Stack.pop_all.Goals as goal
 
