@@ -7,7 +7,7 @@ use std::test::Fail;
 const HEADER: &[u8] = b"\0asm\x01\0\0\0";
 
 // One function `(i32 i32) -> i32` that adds its parameters.
-const ADD: &[u8] =
+pub(crate) const ADD: &[u8] =
     b"\0asm\x01\0\0\0\x01\x07\x01\x60\x02\x7F\x7F\x01\x7F\x03\x02\x01\x00\x0A\x09\x01\x07\x00\x20\x00\x20\x01\x6A\x0B";
 
 // The same, with the size of the type section in five bytes.
@@ -143,7 +143,7 @@ fn tells_where_a_module_is_cut_off(rt: HostRuntime) -> Result<(), Fail> {
 }
 
 // `() -> i32` with `i32.const 1; br 0; i64.const 0`, which leaves an i64 too many.
-const INVALID: &[u8] =
+pub(crate) const INVALID: &[u8] =
     b"\0asm\x01\0\0\0\x01\x05\x01\x60\x00\x01\x7F\x03\x02\x01\x00\x0A\x0A\x01\x08\x00\x41\x01\x0C\x00\x42\x00\x0B";
 
 // A float comes before what isn't valid, and unreachable code is typed: `unreachable; f64.const 0; drop`, `f64.const 0` and
@@ -254,7 +254,7 @@ fn refuses_a_name_of_one_byte_too_many(rt: HostRuntime) -> Result<(), Fail> {
 }
 
 // The addition with the slice of its first instruction, under the name `s`: `local.get 0; i32.const 0; drop; drop; i32.const 0`.
-const SLICED: &[u8] =
+pub(crate) const SLICED: &[u8] =
     b"\0asm\x01\0\0\0\x01\x07\x01\x60\x02\x7F\x7F\x01\x7F\x03\x03\x02\x00\x00\x07\x05\x01\x01s\x00\x01\x0A\x14\x02\x07\x00\x20\x00\x20\x01\x6A\x0B\x0A\x00\x20\x00\x41\x00\x1A\x1A\x41\x00\x0B";
 
 #[test]
