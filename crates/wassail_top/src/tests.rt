@@ -107,13 +107,18 @@ fn rewrites_one_function(rt: HostRuntime) -> Result<(), Fail> {
     Ok(())
 }
 
-// What `check` gives: the line of a refusal, or where there is none that the module is valid.
-fn checked(rt: &HostRuntime, line: &str) -> Result<Ending, Fail> {
+// The line that refuses a module, or where there is none these bytes on out.
+fn answered(rt: &HostRuntime, out: &[u8], line: &str) -> Result<Ending, Fail> {
     if line.is_empty() {
-        expected(rt, 0, 0, b"valid\n", "")
+        expected(rt, 0, 0, out, "")
     } else {
         expected(rt, 1, 0, b"", line)
     }
+}
+
+// What `check` gives: the line of a refusal, or where there is none that the module is valid.
+fn checked(rt: &HostRuntime, line: &str) -> Result<Ending, Fail> {
+    answered(rt, b"valid\n", line)
 }
 
 // The first bytes of the addition, by how many there are, and the line that tells of them: none where they are a valid module.
@@ -137,6 +142,8 @@ fn tells_where_a_module_is_cut_off(rt: HostRuntime) -> Result<(), Fail> {
             let bytes = &ADD[..ADD.len().min(length)];
             let got = end(&rt, &["check"], bytes, NEVER, NEVER)?;
             assert_eq!(rt; got, checked(&rt, line)?);
+            let got = end(&rt, &["rewrite"], bytes, NEVER, NEVER)?;
+            assert_eq!(rt; got, answered(&rt, bytes, line)?);
         }
     }
     Ok(())
@@ -219,6 +226,8 @@ fn refuses_words_and_reads_nothing(rt: HostRuntime) -> Result<(), Fail> {
         none.as_slice(),
         &["check", "0"],
         &["rewrite", "0"],
+        &["run", "0"],
+        &["trace", "0", "0", "4294967296"],
         &["Rewrite"],
         &[""],
         &["slice", "0", "x", "s"],
