@@ -19,7 +19,7 @@ use Rattle.wasm_types.specs.Numbers.{SpellsU32, shortest_u32}
 use Rattle.wasm_types.specs.Parts.{Behind, Both, Each, Counted, Sized, Within}
 use Rattle.wasm_types.specs.Code.{Code, done, one, block, repeat, branch, code_of}
 use Rattle.wasm_types.specs.Types.{kind_byte, SpellsValType, SpellsFuncType, LimitsFrom, SpellsLimits, SpellsTableType, mutable_byte, SpellsGlobalType}
-use Rattle.wasm_types.specs.Plain.{Immediates, nothing, number, labels, signature, address, memory, signed_32, signed_64, raw_32, raw_64, never, immediates, SpellsRaw32, SpellsImmediates}
+use Rattle.wasm_types.specs.Plain.{Immediates, nothing, number, labels, signature, address, memory, signed_32, signed_64, raw_32, raw_64, bulk, never, memories_of, immediates, SpellsRaw32, SpellsImmediates}
 use Rattle.wasm_types.specs.Grammar.{HasArms, SpellsCode, SpellsInstrs}
 use Rattle.wasm_types.specs.Sections.{export_byte, SpellsName, SpellsImportKind, SpellsImport, SpellsGlobal, SpellsExport, SpellsElem, SpellsRun, SpellsBody, SpellsSegment}
 use Rattle.wasm_types.specs.WellFormed.{IsU32, ProperImmediates, ProperCode, ProperInstrs, ProperLimits, ProperName, ProperImportKind, ProperImport, ProperGlobal, ProperExport, ProperElem, ProperBody, ProperSegment}
@@ -114,6 +114,7 @@ immediates_spelled (signed_64 n) h lt = signed_spells 1 9 n (omega arith) (omega
 immediates_spelled (raw_32 n) h lt = raw_spelled n h
 immediates_spelled (raw_64 n) h lt =
     (n % 4294967296, n / 4294967296, both SpellsRaw32 SpellsRaw32 (canon_raw_32 (n % 4294967296)) (canon_raw_32 (n / 4294967296)) (n % 4294967296, n / 4294967296) (raw_spelled (n % 4294967296) (omega arith)) (raw_spelled (n / 4294967296) (omega (arith, h))), omega arith)
+immediates_spelled (bulk n) h lt = record { front = shortest_u32 n; back = memories_of n; parts = refl; first = u32_spelled n h; second = refl }
 immediates_spelled never h lt = absurd h
 
 pub else_long : (text : List ℕ) → length text ≤ length (else_part text)

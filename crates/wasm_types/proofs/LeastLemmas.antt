@@ -12,7 +12,7 @@ use Rattle.wasm_types.specs.Numbers.{SpellsU32, shortest_u32}
 use Rattle.wasm_types.specs.Parts.{Both, Each, Counted, Sized, Within}
 use Rattle.wasm_types.specs.Code.{Code, done, one, block, repeat, branch, code_of}
 use Rattle.wasm_types.specs.Types.{kind_byte, mutable_byte, SpellsValType, SpellsFuncType, LimitsFrom, SpellsLimits, SpellsTableType, SpellsGlobalType}
-use Rattle.wasm_types.specs.Plain.{Immediates, nothing, number, labels, signature, address, memory, signed_32, signed_64, raw_32, raw_64, never, opcode, immediates, SpellsRaw32, SpellsImmediates}
+use Rattle.wasm_types.specs.Plain.{Immediates, nothing, number, labels, signature, address, memory, signed_32, signed_64, raw_32, raw_64, bulk, never, memories_of, opcode, immediates, SpellsRaw32, SpellsImmediates}
 use Rattle.wasm_types.specs.Grammar.{Encloses, SpellsCode, SpellsInstrs}
 use Rattle.wasm_types.specs.Sections.{export_byte, SpellsName, SpellsCustom, SpellsImportKind, SpellsImport, SpellsGlobal, SpellsExport, SpellsElem, SpellsRun, SpellsBody, SpellsSegment}
 use Rattle.wasm_types.specs.Modules.{header, SpellsFrame, contents_of, ListIs, OptionIs, named_payload, later_of, NamesAre, Spells}
@@ -77,6 +77,7 @@ immediates_least text (signed_32 n) p = signed_is_least 8 4 n text (omega arith)
 immediates_least text (signed_64 n) p = signed_is_least 1 9 n text (omega arith) (omega arith) p
 immediates_least text (raw_32 n) p = least_raw text n p
 immediates_least text (raw_64 n) p = both_least SpellsRaw32 SpellsRaw32 canon_raw_32 canon_raw_32 least_raw least_raw text (p.0, p.1) p.2
+immediates_least text (bulk n) p = two_parts text p.front p.back (shortest_u32 n) (memories_of n) p.parts (least_u32 p.front n p.first) (same_size p.back (memories_of n) p.second)
 immediates_least text never p = absurd p
 
 else_short : (text : List ℕ) → (length text ≤ 0 → length (else_part text) ≤ 0) × (length (else_part text) ≤ 1 + length text)

@@ -5,6 +5,7 @@ use Rattle.wasm_types.specs.declared.ops.Width.TheVariants.{W32, W64}
 use Rattle.wasm_types.specs.declared.ops.UnOp.TheVariants as un
 use Rattle.wasm_types.specs.declared.ops.RelOp.TheVariants as rel
 use Rattle.wasm_types.specs.declared.ops.BinOp.TheVariants as bin
+use Rattle.wasm_types.specs.declared.ops.LowOp.TheVariants as low
 use Rattle.wasm_types.specs.declared.ops.NumOp.{NumOp}
 use Rattle.wasm_types.specs.declared.ops.NumOp.TheVariants as num
 use Rattle.wasm_types.specs.declared.ops.LoadOp.{LoadOp}
@@ -14,18 +15,18 @@ use Rattle.wasm_types.specs.declared.ops.StoreOp.TheVariants as store
 use Rattle.wasm_types.specs.declared.instr.MemArg.{MemArg}
 use Rattle.wasm_types.specs.declared.instr.FloatInstr.{FloatInstr}
 use Rattle.wasm_types.specs.declared.instr.FloatInstr.TheVariants as float
-use Rattle.wasm_types.specs.declared.instr.Instr.{Instr, Unreachable, Nop, Drop, Select, Return, Block', Loop', If', Br, BrIf, BrTable, Call, CallIndirect, LocalGet, LocalSet, LocalTee, GlobalGet, GlobalSet, Load, Store, MemorySize, MemoryGrow, I32Const, I64Const, Num, Float}
+use Rattle.wasm_types.specs.declared.instr.Instr.{Instr, Unreachable, Nop, Drop, Select, Return, Block', Loop', If', Br, BrIf, BrTable, Call, CallIndirect, LocalGet, LocalSet, LocalTee, GlobalGet, GlobalSet, Load, Store, MemorySize, MemoryGrow, I32Const, I64Const, Num, Float, MemoryCopy, MemoryFill}
 use Rattle.std.proofs.lemmas.Bool.Decides.{nat_tests}
 use Rattle.wasm_types.specs.Numbers.{SpellsU32}
 use Rattle.wasm_types.proofs.NumberLemmas.{one_signed}
 use Rattle.wasm_types.specs.Parts.{Counted}
-use Rattle.wasm_types.proofs.Once.{IsOnce, once_u32, once_both, once_counted}
-use Rattle.wasm_types.specs.Plain.{SpellsRaw32, SpellsRaw64, Immediates, nothing, number, labels, signature, address, memory, signed_32, signed_64, raw_32, raw_64, never, within, is_number, is_address, float_plain, num_opcode, opcode, float_immediates, immediates, SpellsImmediates, SpellsPlain}
+use Rattle.wasm_types.proofs.Once.{IsOnce, once_u32, once_then, once_both, once_counted}
+use Rattle.wasm_types.specs.Plain.{SpellsRaw32, SpellsRaw64, Immediates, nothing, number, labels, signature, address, memory, signed_32, signed_64, raw_32, raw_64, bulk, never, memories_of, within, is_number, is_address, float_plain, num_opcode, opcode, float_immediates, immediates, SpellsBulk, SpellsImmediates, SpellsPlain}
 
 -- ---- from an opcode and what follows it to the instruction
 
 abbrev pub num_of : ℕ → NumOp
-num_of n = if n == 0x45 then num.Eqz W32 else (if n == 0x46 then num.Rel W32 rel.Eq else (if n == 0x47 then num.Rel W32 rel.Ne else (if n == 0x48 then num.Rel W32 rel.LtS else (if n == 0x49 then num.Rel W32 rel.LtU else (if n == 0x4A then num.Rel W32 rel.GtS else (if n == 0x4B then num.Rel W32 rel.GtU else (if n == 0x4C then num.Rel W32 rel.LeS else (if n == 0x4D then num.Rel W32 rel.LeU else (if n == 0x4E then num.Rel W32 rel.GeS else (if n == 0x4F then num.Rel W32 rel.GeU else (if n == 0x50 then num.Eqz W64 else (if n == 0x51 then num.Rel W64 rel.Eq else (if n == 0x52 then num.Rel W64 rel.Ne else (if n == 0x53 then num.Rel W64 rel.LtS else (if n == 0x54 then num.Rel W64 rel.LtU else (if n == 0x55 then num.Rel W64 rel.GtS else (if n == 0x56 then num.Rel W64 rel.GtU else (if n == 0x57 then num.Rel W64 rel.LeS else (if n == 0x58 then num.Rel W64 rel.LeU else (if n == 0x59 then num.Rel W64 rel.GeS else (if n == 0x5A then num.Rel W64 rel.GeU else (if n == 0x67 then num.Un W32 un.Clz else (if n == 0x68 then num.Un W32 un.Ctz else (if n == 0x69 then num.Un W32 un.Popcnt else (if n == 0x6A then num.Bin W32 bin.Add else (if n == 0x6B then num.Bin W32 bin.Sub else (if n == 0x6C then num.Bin W32 bin.Mul else (if n == 0x6D then num.Bin W32 bin.DivS else (if n == 0x6E then num.Bin W32 bin.DivU else (if n == 0x6F then num.Bin W32 bin.RemS else (if n == 0x70 then num.Bin W32 bin.RemU else (if n == 0x71 then num.Bin W32 bin.And else (if n == 0x72 then num.Bin W32 bin.Or else (if n == 0x73 then num.Bin W32 bin.Xor else (if n == 0x74 then num.Bin W32 bin.Shl else (if n == 0x75 then num.Bin W32 bin.ShrS else (if n == 0x76 then num.Bin W32 bin.ShrU else (if n == 0x77 then num.Bin W32 bin.Rotl else (if n == 0x78 then num.Bin W32 bin.Rotr else (if n == 0x79 then num.Un W64 un.Clz else (if n == 0x7A then num.Un W64 un.Ctz else (if n == 0x7B then num.Un W64 un.Popcnt else (if n == 0x7C then num.Bin W64 bin.Add else (if n == 0x7D then num.Bin W64 bin.Sub else (if n == 0x7E then num.Bin W64 bin.Mul else (if n == 0x7F then num.Bin W64 bin.DivS else (if n == 0x80 then num.Bin W64 bin.DivU else (if n == 0x81 then num.Bin W64 bin.RemS else (if n == 0x82 then num.Bin W64 bin.RemU else (if n == 0x83 then num.Bin W64 bin.And else (if n == 0x84 then num.Bin W64 bin.Or else (if n == 0x85 then num.Bin W64 bin.Xor else (if n == 0x86 then num.Bin W64 bin.Shl else (if n == 0x87 then num.Bin W64 bin.ShrS else (if n == 0x88 then num.Bin W64 bin.ShrU else (if n == 0x89 then num.Bin W64 bin.Rotl else (if n == 0x8A then num.Bin W64 bin.Rotr else (if n == 0xA7 then num.Wrap else (if n == 0xAC then num.ExtendS else (num.ExtendU))))))))))))))))))))))))))))))))))))))))))))))))))))))))))))
+num_of n = if n == 0x45 then num.Eqz W32 else (if n == 0x46 then num.Rel W32 rel.Eq else (if n == 0x47 then num.Rel W32 rel.Ne else (if n == 0x48 then num.Rel W32 rel.LtS else (if n == 0x49 then num.Rel W32 rel.LtU else (if n == 0x4A then num.Rel W32 rel.GtS else (if n == 0x4B then num.Rel W32 rel.GtU else (if n == 0x4C then num.Rel W32 rel.LeS else (if n == 0x4D then num.Rel W32 rel.LeU else (if n == 0x4E then num.Rel W32 rel.GeS else (if n == 0x4F then num.Rel W32 rel.GeU else (if n == 0x50 then num.Eqz W64 else (if n == 0x51 then num.Rel W64 rel.Eq else (if n == 0x52 then num.Rel W64 rel.Ne else (if n == 0x53 then num.Rel W64 rel.LtS else (if n == 0x54 then num.Rel W64 rel.LtU else (if n == 0x55 then num.Rel W64 rel.GtS else (if n == 0x56 then num.Rel W64 rel.GtU else (if n == 0x57 then num.Rel W64 rel.LeS else (if n == 0x58 then num.Rel W64 rel.LeU else (if n == 0x59 then num.Rel W64 rel.GeS else (if n == 0x5A then num.Rel W64 rel.GeU else (if n == 0x67 then num.Un W32 un.Clz else (if n == 0x68 then num.Un W32 un.Ctz else (if n == 0x69 then num.Un W32 un.Popcnt else (if n == 0x6A then num.Bin W32 bin.Add else (if n == 0x6B then num.Bin W32 bin.Sub else (if n == 0x6C then num.Bin W32 bin.Mul else (if n == 0x6D then num.Bin W32 bin.DivS else (if n == 0x6E then num.Bin W32 bin.DivU else (if n == 0x6F then num.Bin W32 bin.RemS else (if n == 0x70 then num.Bin W32 bin.RemU else (if n == 0x71 then num.Bin W32 bin.And else (if n == 0x72 then num.Bin W32 bin.Or else (if n == 0x73 then num.Bin W32 bin.Xor else (if n == 0x74 then num.Bin W32 bin.Shl else (if n == 0x75 then num.Bin W32 bin.ShrS else (if n == 0x76 then num.Bin W32 bin.ShrU else (if n == 0x77 then num.Bin W32 bin.Rotl else (if n == 0x78 then num.Bin W32 bin.Rotr else (if n == 0x79 then num.Un W64 un.Clz else (if n == 0x7A then num.Un W64 un.Ctz else (if n == 0x7B then num.Un W64 un.Popcnt else (if n == 0x7C then num.Bin W64 bin.Add else (if n == 0x7D then num.Bin W64 bin.Sub else (if n == 0x7E then num.Bin W64 bin.Mul else (if n == 0x7F then num.Bin W64 bin.DivS else (if n == 0x80 then num.Bin W64 bin.DivU else (if n == 0x81 then num.Bin W64 bin.RemS else (if n == 0x82 then num.Bin W64 bin.RemU else (if n == 0x83 then num.Bin W64 bin.And else (if n == 0x84 then num.Bin W64 bin.Or else (if n == 0x85 then num.Bin W64 bin.Xor else (if n == 0x86 then num.Bin W64 bin.Shl else (if n == 0x87 then num.Bin W64 bin.ShrS else (if n == 0x88 then num.Bin W64 bin.ShrU else (if n == 0x89 then num.Bin W64 bin.Rotl else (if n == 0x8A then num.Bin W64 bin.Rotr else (if n == 0xA7 then num.Wrap else (if n == 0xAC then num.ExtendS else (if n == 0xAD then num.ExtendU else (if n == 0xC0 then num.Low low.I32S8 else (if n == 0xC1 then num.Low low.I32S16 else (if n == 0xC2 then num.Low low.I64S8 else (if n == 0xC3 then num.Low low.I64S16 else (num.Low low.I64S32)))))))))))))))))))))))))))))))))))))))))))))))))))))))))))))))))
 
 abbrev pub load_of : ℕ → LoadOp
 load_of n = if n == 0x28 then load.I32 else (if n == 0x29 then load.I64 else (if n == 0x2C then load.I32S8 else (if n == 0x2D then load.I32U8 else (if n == 0x2E then load.I32S16 else (if n == 0x2F then load.I32U16 else (if n == 0x30 then load.I64S8 else (if n == 0x31 then load.I64U8 else (if n == 0x32 then load.I64S16 else (if n == 0x33 then load.I64U16 else (if n == 0x34 then load.I64S32 else (load.I64U32)))))))))))
@@ -50,6 +51,7 @@ make n (signed_32 v) = I32Const v
 make n (signed_64 v) = I64Const v
 make n (raw_32 v) = Float (float.Const32 v)
 make n (raw_64 v) = Float (float.Const64 v)
+make n (bulk v) = if v == 10 then MemoryCopy else MemoryFill
 make n never = Unreachable
 
 -- which kind of text follows an opcode
@@ -65,12 +67,13 @@ shape (signed_64 v) = 7
 shape (raw_32 v) = 8
 shape (raw_64 v) = 9
 shape never = 10
+shape (bulk v) = 11
 
 abbrev pub is_bare : ℕ → Bool
-is_bare n = nat_lt n 0x02 || ((n == 0x0F) || (within 0x1A 0x1B n || within 0x45 0xBF n))
+is_bare n = nat_lt n 0x02 || ((n == 0x0F) || (within 0x1A 0x1B n || within 0x45 0xC4 n))
 
 abbrev pub shape_of : ℕ → ℕ
-shape_of n = if is_bare n then 0 else (if is_number n then 1 else (if is_address n then 4 else (if n == 0x0E then 2 else (if n == 0x11 then 3 else (if n == 0x3F then 5 else (if n == 0x40 then 5 else (if n == 0x41 then 6 else (if n == 0x42 then 7 else (if n == 0x43 then 8 else (if n == 0x44 then 9 else (10)))))))))))
+shape_of n = if is_bare n then 0 else (if is_number n then 1 else (if is_address n then 4 else (if n == 0x0E then 2 else (if n == 0x11 then 3 else (if n == 0x3F then 5 else (if n == 0x40 then 5 else (if n == 0x41 then 6 else (if n == 0x42 then 7 else (if n == 0x43 then 8 else (if n == 0x44 then 9 else (if n == 0xFC then 11 else (10))))))))))))
 
 -- the instruction that a plain text spells is told by its opcode and what follows
 abbrev pub Told : Instr → Type 0
@@ -141,6 +144,11 @@ told_num (num.Bin W64 bin.Rotr) = (refl, refl)
 told_num num.Wrap = (refl, refl)
 told_num num.ExtendS = (refl, refl)
 told_num num.ExtendU = (refl, refl)
+told_num (num.Low low.I32S8) = (refl, refl)
+told_num (num.Low low.I32S16) = (refl, refl)
+told_num (num.Low low.I64S8) = (refl, refl)
+told_num (num.Low low.I64S16) = (refl, refl)
+told_num (num.Low low.I64S32) = (refl, refl)
 
 told_load : (op : LoadOp) (m : MemArg) → Told (Load op m)
 told_load load.I32 m = (refl, refl)
@@ -220,6 +228,8 @@ told (I32Const v) text p = (refl, refl)
 told (I64Const v) text p = (refl, refl)
 told (Num op) text p = told_num op
 told (Float f) text p = told_float f text p
+told MemoryCopy text p = (refl, refl)
+told MemoryFill text p = (refl, refl)
 
 -- ---- what follows an opcode spells one thing, once its kind is known
 
@@ -237,6 +247,12 @@ once_raw64 a b x y m n p q e =
     let high : p.1 ≡ q.1 = ap (λ (v : ℕ × ℕ). v.1) r.1 in
     (r.0, omega (arith, p.3, q.3, low, high))
 
+once_bulk : IsOnce SpellsBulk
+once_bulk a b x y m n p q e =
+    let Zeros : List ℕ → ℕ → Type 0 = λ t k. t ≡ memories_of k in
+    let r = once_then SpellsU32 Zeros a b x y m n m n once_u32 (λ c d same u v h. (u ∙ ap memories_of same ∙ sym v, same)) p q e in
+    (r.0, r.1)
+
 one_immediates : (s t : Immediates) (a b x y : List ℕ) → shape s ≡ shape t → SpellsImmediates a s → SpellsImmediates b t → a ++ x ≡ b ++ y → (a ≡ b) × (s ≡ t)
 one_immediates nothing nothing a b x y k p q e = (p ∙ sym q, refl)
 one_immediates (number m) (number n) a b x y k p q e = let r = once_u32 a b x y m n p q e in (r.0, ap number r.1)
@@ -252,6 +268,7 @@ one_immediates (signed_32 m) (signed_32 n) a b x y k p q e = let r = one_signed 
 one_immediates (signed_64 m) (signed_64 n) a b x y k p q e = let r = one_signed 9223372036854775808 a b x y m n p q e in (r.0, ap signed_64 r.1)
 one_immediates (raw_32 m) (raw_32 n) a b x y k p q e = let r = once_raw32 a b x y m n p q e in (r.0, ap raw_32 r.1)
 one_immediates (raw_64 m) (raw_64 n) a b x y k p q e = let r = once_raw64 a b x y m n p q e in (r.0, ap raw_64 r.1)
+one_immediates (bulk m) (bulk n) a b x y k p q e = let r = once_bulk a b x y m n p q e in (r.0, ap bulk r.1)
 one_immediates _ _ a b x y k p q e = absurd (omega (arith, k))
 
 pub one_plain : IsOnce SpellsPlain

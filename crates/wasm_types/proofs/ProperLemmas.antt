@@ -12,7 +12,7 @@ use Rattle.wasm_types.specs.Numbers.{SpellsU32}
 use Rattle.wasm_types.specs.Parts.{Each, Counted, Sized, Within}
 use Rattle.wasm_types.specs.Code.{Code, done, one, block, repeat, branch, code_of}
 use Rattle.wasm_types.specs.Types.{LimitsFrom, SpellsLimits, SpellsTableType}
-use Rattle.wasm_types.specs.Plain.{Immediates, nothing, number, labels, signature, address, memory, signed_32, signed_64, raw_32, raw_64, never, immediates, SpellsRaw32, SpellsImmediates}
+use Rattle.wasm_types.specs.Plain.{Immediates, nothing, number, labels, signature, address, memory, signed_32, signed_64, raw_32, raw_64, bulk, never, immediates, SpellsRaw32, SpellsImmediates}
 use Rattle.wasm_types.specs.Grammar.{SpellsCode, SpellsInstrs}
 use Rattle.wasm_types.specs.Sections.{SpellsName, SpellsCustom, SpellsImportKind, SpellsImport, SpellsGlobal, SpellsExport, SpellsElem, SpellsRun, SpellsBody, SpellsSegment}
 use Rattle.wasm_types.specs.Modules.{header, SpellsFrame, contents_of, ListIs, OptionIs, named_payload, later_of, NamesAre, Spells}
@@ -82,6 +82,7 @@ immediates_proper text (signed_32 n) p = omega (arith, signed_below 2147483648 t
 immediates_proper text (signed_64 n) p = omega (arith, signed_below 9223372036854775808 text n p)
 immediates_proper text (raw_32 n) p = raw_below text n p
 immediates_proper text (raw_64 n) p = omega (arith, raw_below p.2.front p.0 p.2.first, raw_below p.2.back p.1 p.2.second, p.3)
+immediates_proper text (bulk n) p = u32_proper p.front n p.first
 immediates_proper text never p = absurd p
 
 pub code_proper : (c : Code) (text : List ℕ) → SpellsCode c text → ProperCode c

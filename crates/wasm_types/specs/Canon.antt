@@ -20,7 +20,7 @@ use Rattle.wasm_types.specs.declared.instr.Instr.{Instr}
 use Rattle.wasm_types.specs.Code.{Code, done, one, block, repeat, branch, code_of}
 use Rattle.wasm_types.specs.Numbers.{shortest_u32, shortest_s32, shortest_s64}
 use Rattle.wasm_types.specs.Types.{type_byte, kind_byte, mutable_byte}
-use Rattle.wasm_types.specs.Plain.{Immediates, nothing, number, labels, signature, address, memory, signed_32, signed_64, raw_32, raw_64, never, opcode, immediates}
+use Rattle.wasm_types.specs.Plain.{Immediates, nothing, number, labels, signature, address, memory, signed_32, signed_64, raw_32, raw_64, bulk, never, memories_of, opcode, immediates}
 use Rattle.wasm_types.specs.Sections.{export_byte}
 use Rattle.wasm_types.specs.Modules.{header}
 
@@ -56,6 +56,7 @@ canon_immediates (signed_32 n) = shortest_s32 n
 canon_immediates (signed_64 n) = shortest_s64 n
 canon_immediates (raw_32 n) = canon_raw_32 n
 canon_immediates (raw_64 n) = canon_raw_32 (n % 4294967296) ++ canon_raw_32 (n / 4294967296)
+canon_immediates (bulk n) = shortest_u32 n ++ memories_of n
 canon_immediates never = []
 
 abbrev pub canon_plain : Instr → List ℕ

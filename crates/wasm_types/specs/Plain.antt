@@ -7,6 +7,8 @@ use Rattle.wasm_types.specs.declared.ops.RelOp.{RelOp}
 use Rattle.wasm_types.specs.declared.ops.RelOp.TheVariants as rel
 use Rattle.wasm_types.specs.declared.ops.BinOp.{BinOp}
 use Rattle.wasm_types.specs.declared.ops.BinOp.TheVariants as bin
+use Rattle.wasm_types.specs.declared.ops.LowOp.{LowOp}
+use Rattle.wasm_types.specs.declared.ops.LowOp.TheVariants as low
 use Rattle.wasm_types.specs.declared.ops.NumOp.{NumOp}
 use Rattle.wasm_types.specs.declared.ops.NumOp.TheVariants as num
 use Rattle.wasm_types.specs.declared.ops.LoadOp.{LoadOp}
@@ -16,9 +18,9 @@ use Rattle.wasm_types.specs.declared.ops.StoreOp.TheVariants as store
 use Rattle.wasm_types.specs.declared.instr.MemArg.{MemArg}
 use Rattle.wasm_types.specs.declared.instr.FloatInstr.{FloatInstr}
 use Rattle.wasm_types.specs.declared.instr.FloatInstr.TheVariants as float
-use Rattle.wasm_types.specs.declared.instr.Instr.{Instr, Unreachable, Nop, Drop, Select, Return, Block', Loop', If', Br, BrIf, BrTable, Call, CallIndirect, LocalGet, LocalSet, LocalTee, GlobalGet, GlobalSet, Load, Store, MemorySize, MemoryGrow, I32Const, I64Const, Num, Float}
+use Rattle.wasm_types.specs.declared.instr.Instr.{Instr, Unreachable, Nop, Drop, Select, Return, Block', Loop', If', Br, BrIf, BrTable, Call, CallIndirect, LocalGet, LocalSet, LocalTee, GlobalGet, GlobalSet, Load, Store, MemorySize, MemoryGrow, I32Const, I64Const, Num, Float, MemoryCopy, MemoryFill}
 use Rattle.wasm_types.specs.Numbers.{SpellsU32, SpellsS32, SpellsS64}
-use Rattle.wasm_types.specs.Parts.{Behind, Both, Counted}
+use Rattle.wasm_types.specs.Parts.{Then, Behind, Both, Counted}
 
 -- ---- opcodes
 
@@ -57,6 +59,13 @@ bin_place bin.ShrU = 12
 bin_place bin.Rotl = 13
 bin_place bin.Rotr = 14
 
+abbrev pub low_opcode : LowOp → ℕ
+low_opcode low.I32S8 = 0xC0
+low_opcode low.I32S16 = 0xC1
+low_opcode low.I64S8 = 0xC2
+low_opcode low.I64S16 = 0xC3
+low_opcode low.I64S32 = 0xC4
+
 abbrev pub num_opcode : NumOp → ℕ
 num_opcode (num.Eqz W32) = 0x45
 num_opcode (num.Rel W32 r) = 0x46 + rel_place r
@@ -69,6 +78,7 @@ num_opcode (num.Bin W64 b) = 0x7C + bin_place b
 num_opcode num.Wrap = 0xA7
 num_opcode num.ExtendS = 0xAC
 num_opcode num.ExtendU = 0xAD
+num_opcode (num.Low op) = low_opcode op
 
 abbrev pub load_opcode : LoadOp → ℕ
 load_opcode load.I32 = 0x28
@@ -127,6 +137,8 @@ opcode (I32Const n) = 0x41
 opcode (I64Const n) = 0x42
 opcode (Num op) = num_opcode op
 opcode (Float f) = float_opcode f
+opcode MemoryCopy = 0xFC
+opcode MemoryFill = 0xFC
 
 -- ---- what follows an opcode
 
@@ -141,6 +153,7 @@ pub data Immediates : Type 0 where
   signed_64 : ℕ → Immediates
   raw_32 : ℕ → Immediates
   raw_64 : ℕ → Immediates
+  bulk : ℕ → Immediates
   never : Immediates
 
 -- the byte is in the range
@@ -193,6 +206,15 @@ immediates (I32Const n) = signed_32 n
 immediates (I64Const n) = signed_64 n
 immediates (Num op) = nothing
 immediates (Float f) = float_immediates f
+immediates MemoryCopy = bulk 10
+immediates MemoryFill = bulk 11
+
+-- what follows the number that tells a bulk instruction: a zero byte for each memory that it names, two for memory.copy
+abbrev pub memories_of : ℕ → List ℕ
+memories_of n = if n == 10 then 0x00 ∷ 0x00 ∷ [] else 0x00 ∷ []
+
+abbrev pub SpellsBulk : List ℕ → ℕ → Type 0
+SpellsBulk text n = Then (λ t. SpellsU32 t n) (λ t. t ≡ memories_of n) text
 
 -- four bytes, the least first
 abbrev pub SpellsRaw32 : List ℕ → ℕ → Type 0
@@ -214,6 +236,7 @@ SpellsImmediates text (signed_32 n) = SpellsS32 text n
 SpellsImmediates text (signed_64 n) = SpellsS64 text n
 SpellsImmediates text (raw_32 n) = SpellsRaw32 text n
 SpellsImmediates text (raw_64 n) = SpellsRaw64 text n
+SpellsImmediates text (bulk n) = SpellsBulk text n
 SpellsImmediates text never = ⊥
 
 -- an instruction that holds no others

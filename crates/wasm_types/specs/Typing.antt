@@ -3,6 +3,8 @@
 use Rattle.std.specs.Prelude.{◌≡◌, ◌≢◌, ℕ, ◌≤◌, ◌^◌, List, [], ◌∷◌, reverse, Some, slice_get, true}
 use Rattle.wasm_types.specs.declared.ops.Width.{Width}
 use Rattle.wasm_types.specs.declared.ops.Width.TheVariants.{W32, W64}
+use Rattle.wasm_types.specs.declared.ops.LowOp.{LowOp}
+use Rattle.wasm_types.specs.declared.ops.LowOp.TheVariants as low
 use Rattle.wasm_types.specs.declared.ops.NumOp.{NumOp}
 use Rattle.wasm_types.specs.declared.ops.NumOp.TheVariants as num
 use Rattle.wasm_types.specs.declared.ops.LoadOp.{LoadOp}
@@ -15,7 +17,7 @@ use Rattle.wasm_types.specs.declared.module.FuncType.{FuncType}
 use Rattle.wasm_types.specs.declared.module.GlobalType.{GlobalType}
 use Rattle.wasm_types.specs.declared.module.Module.{Module}
 use Rattle.wasm_types.specs.declared.instr.MemArg.{MemArg}
-use Rattle.wasm_types.specs.declared.instr.Instr.{Instr, Nop, Drop, Select, Call, CallIndirect, LocalGet, LocalSet, LocalTee, GlobalGet, GlobalSet, Load, Store, MemorySize, MemoryGrow, I32Const, I64Const, Num}
+use Rattle.wasm_types.specs.declared.instr.Instr.{Instr, Nop, Drop, Select, Call, CallIndirect, LocalGet, LocalSet, LocalTee, GlobalGet, GlobalSet, Load, Store, MemorySize, MemoryGrow, I32Const, I64Const, Num, MemoryCopy, MemoryFill}
 use Rattle.wasm_types.specs.Spaces.{type_of_func, tables_of, mems_of, globals_of}
 
 -- where an instruction stands: the module, the types of the locals, and the function's result
@@ -32,6 +34,13 @@ type_of_width W64 = I64
 abbrev pub Takes : List ValType → List ValType → List ValType → List ValType → Type 0
 Takes takes leaves t l = (t ≡ takes) × (l ≡ leaves)
 
+abbrev pub low_type : LowOp → ValType
+low_type low.I32S8 = I32
+low_type low.I32S16 = I32
+low_type low.I64S8 = I64
+low_type low.I64S16 = I64
+low_type low.I64S32 = I64
+
 abbrev pub TypesNum : NumOp → List ValType → List ValType → Type 0
 TypesNum (num.Eqz w) t l = Takes (type_of_width w ∷ []) (I32 ∷ []) t l
 TypesNum (num.Rel w op) t l = Takes (type_of_width w ∷ type_of_width w ∷ []) (I32 ∷ []) t l
@@ -40,6 +49,7 @@ TypesNum (num.Bin w op) t l = Takes (type_of_width w ∷ type_of_width w ∷ [])
 TypesNum num.Wrap t l = Takes (I64 ∷ []) (I32 ∷ []) t l
 TypesNum num.ExtendS t l = Takes (I32 ∷ []) (I64 ∷ []) t l
 TypesNum num.ExtendU t l = Takes (I32 ∷ []) (I64 ∷ []) t l
+TypesNum (num.Low op) t l = Takes (low_type op ∷ []) (low_type op ∷ []) t l
 
 abbrev pub load_type : LoadOp → ValType
 load_type load.I32 = I32
@@ -103,4 +113,6 @@ Types c MemoryGrow t l = (mems_of c.inside ≢ []) × Takes (I32 ∷ []) (I32 �
 Types c (I32Const n) t l = Takes [] (I32 ∷ []) t l
 Types c (I64Const n) t l = Takes [] (I64 ∷ []) t l
 Types c (Num op) t l = TypesNum op t l
+Types c MemoryCopy t l = (mems_of c.inside ≢ []) × Takes (I32 ∷ I32 ∷ I32 ∷ []) [] t l
+Types c MemoryFill t l = (mems_of c.inside ≢ []) × Takes (I32 ∷ I32 ∷ I32 ∷ []) [] t l
 Types c _ t l = ⊥

@@ -15,7 +15,7 @@ use Rattle.wasm_types.specs.declared.module.DataSegment.{DataSegment}
 use Rattle.wasm_types.specs.declared.module.Module.{Module}
 use Rattle.wasm_types.specs.declared.instr.Instr.{Instr}
 use Rattle.wasm_types.specs.Code.{Code, done, one, block, repeat, branch, code_of}
-use Rattle.wasm_types.specs.Plain.{Immediates, nothing, number, labels, signature, address, memory, signed_32, signed_64, raw_32, raw_64, never, immediates}
+use Rattle.wasm_types.specs.Plain.{Immediates, nothing, number, labels, signature, address, memory, signed_32, signed_64, raw_32, raw_64, bulk, never, immediates}
 use Rattle.wasm_types.specs.Sections.{local_count}
 
 abbrev pub IsU8 : ℕ → Type 0
@@ -39,6 +39,7 @@ ProperImmediates (signed_32 n) = IsU32 n
 ProperImmediates (signed_64 n) = IsU64 n
 ProperImmediates (raw_32 n) = IsU32 n
 ProperImmediates (raw_64 n) = IsU64 n
+ProperImmediates (bulk n) = IsU32 n
 ProperImmediates never = ⊥
 
 abbrev pub ProperCode : Code → Type 0
