@@ -16,3 +16,14 @@ pub mod Typing
 pub mod Validity
 pub mod Sizes
 pub mod Subset
+pub mod Actions
+pub mod Locations
+pub mod Hosts
+pub mod Funcs
+pub mod Nodes
+pub mod Labels
+pub mod Sites
+pub mod Reaching
+pub mod Shadow
+pub mod Places
+pub mod Takers

@@ -10,6 +10,34 @@ pub enum Node {
     Exit,
 }
 
+/// A point of a body, where paths lead: the same three forms, for the end of each block, loop or if, also of one that has no result.
+pub type Point = Node;
+
+/// What holds a value that instructions read and write: a local, a global, all bytes of the memory, the number of its pages, the host with the calls that
+/// it got.
+#[derive(Clone, Copy, Debug, PartialEq, Eq)]
+pub enum Loc {
+    Local(u32),
+    Global(u32),
+    Mem,
+    Size,
+    Host,
+}
+
+/// What may have written a location last: the entry of the body, or an instruction.
+#[derive(Clone, Copy, Debug, PartialEq, Eq)]
+pub enum Def {
+    Entry,
+    At(Pos),
+}
+
+/// What takes a value off the stack: an instruction, as an operand, or the end of a block, of an arm or of the body.
+#[derive(Clone, Copy, Debug, PartialEq, Eq)]
+pub enum Taker {
+    Instr(Pos),
+    End(Point),
+}
+
 /// A part of a module. Functions and globals have their number in the module, the imported ones first; the other numbers count the entries of a section.
 #[derive(Clone, Copy, Debug, PartialEq, Eq)]
 pub enum Part {

@@ -24,6 +24,15 @@ pub enum Event {
     Leave(Items<Value>),
 }
 
+/// What the host answers to a call: a result, values for globals by their numbers, and bytes from an address on. A negative number stands for itself and
+/// 2 to the width of the type.
+#[derive(Drop)]
+pub struct Reply {
+    pub result: Option<i128>,
+    pub globals: Items<(u32, i128)>,
+    pub bytes: Items<(u32, Items<u8>)>,
+}
+
 /// How a run ended, and after how many turns: calls, and branches back to a loop.
 #[derive(Clone, Copy, Debug, PartialEq, Eq)]
 pub enum Ended {
