@@ -1,19 +1,14 @@
 -- When values have types, and when a state fits a module (docs/MEANING.md, "The state").
-use Rattle.std.specs.Prelude.{◌≡◌, ℕ, ◌*◌, ◌^◌, ◌<◌, ◌≤◌, ◌⊎◌, List, [], ◌∷◌, ◌++◌, length, map, All, Any, Contains, Option, IfSome}
+use Rattle.std.specs.Prelude.{◌≡◌, ℕ, ◌*◌, ◌^◌, ◌<◌, ◌≤◌, List, [], ◌∷◌, length, map, All, Option, IfSome}
 use Rattle.wasm_types.specs.declared.module.Value.{Value}
 use Rattle.wasm_types.specs.declared.module.Value.TheVariants as value
 use Rattle.wasm_types.specs.declared.module.ValType.{ValType}
 use Rattle.wasm_types.specs.declared.module.ValType.TheVariants as type
 use Rattle.wasm_types.specs.declared.module.Limits.{Limits}
-use Rattle.wasm_types.specs.declared.module.ImportKind.{ImportKind}
-use Rattle.wasm_types.specs.declared.module.ImportKind.TheVariants as import
-use Rattle.wasm_types.specs.declared.module.Import.{Import}
 use Rattle.wasm_types.specs.declared.module.GlobalType.{GlobalType}
-use Rattle.wasm_types.specs.declared.module.ExportKind.TheVariants as export
-use Rattle.wasm_types.specs.declared.module.Export.{Export}
-use Rattle.wasm_types.specs.declared.module.Elem.{Elem}
 use Rattle.wasm_types.specs.declared.module.Module.{Module}
 use Rattle.wasm_types.specs.Spaces.{globals_of, mems_of}
+use Rattle.wasm_types.specs.Hosts.{MayStand}
 use Rattle.wasm_meaning.specs.State.{State}
 
 -- a value has a type, and its number is below 2 to the width
@@ -28,18 +23,6 @@ HaveTypes _ _ = ⊥
 
 abbrev pub global_type : GlobalType → ValType
 global_type g = g.kind
-
-abbrev pub IsTableImport : ImportKind → Type 0
-IsTableImport (import.Table l) = Unit {0}
-IsTableImport _ = ⊥
-
--- the host sees the table
-abbrev pub TableVisible : Module → Type 0
-TableVisible m = Any (λ (i : Import). IsTableImport i.kind) m.imports ⊎ Any (λ (e : Export). e.kind ≡ export.Table) m.exports
-
--- a function may stand in the table: an element segment names it, or the host sees the table
-abbrev pub MayStand : Module → ℕ → Type 0
-MayStand m f = Any (λ (e : Elem). Contains e.funcs f) m.elems ⊎ TableVisible m
 
 -- a state fits a module
 pub record Fits (m : Module) (s : State) : Type 0 where

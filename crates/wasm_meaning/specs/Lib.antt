@@ -1,8 +1,12 @@
+pub mod Cells
 pub mod State
-pub mod Fits
 pub mod Stops
-pub mod Actions
-pub mod Locations
+pub mod Fits
+pub mod Operations
+pub mod Memory
+pub mod Effects
+pub mod Equality
+pub mod HostCalls
 pub mod Run
 pub mod Invoke
 pub mod Laws
