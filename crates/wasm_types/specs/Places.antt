@@ -1,5 +1,5 @@
 -- The types of the places of a body (docs/ANALYSES.md, "Places").
-use Rattle.std.specs.Prelude.{◌≡◌, ℕ, [], ◌∷◌, map, Option, Some, take}
+use Rattle.std.specs.Prelude.{◌≡◌, ℕ, [], ◌∷◌, map, Some, take}
 use Rattle.wasm_types.specs.declared.module.ValType.{ValType}
 use Rattle.wasm_types.specs.declared.place.Node.{Node}
 use Rattle.wasm_types.specs.declared.instr.Instr.{Instr}

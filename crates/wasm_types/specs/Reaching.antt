@@ -1,5 +1,5 @@
 -- Which writes reach which points (docs/ANALYSES.md, "Reaching"). It is asked over any table that tells what positions write.
-use Rattle.std.specs.Prelude.{◌≡◌, ℕ}
+use Rattle.std.specs.Prelude.{ℕ}
 use Rattle.wasm_types.specs.declared.place.Loc.{Loc}
 use Rattle.wasm_types.specs.declared.place.Def.{Def}
 use Rattle.wasm_types.specs.declared.place.Def.TheVariants as def

@@ -1,0 +1,6 @@
+pub mod Cut
+pub mod Presence
+pub mod Heights
+pub mod Kept
+pub mod Sliced
+pub mod Bounds

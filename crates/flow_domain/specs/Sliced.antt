@@ -1,0 +1,95 @@
+-- The sliced module of a function, an instruction and a name (docs/ANALYSES.md, "The sliced module").
+use Rattle.std.specs.Prelude.{◌≡◌, ℕ, ◌⊎◌, List, [], ◌∷◌, ◌++◌, length, Option, Bool, Some, slice_get, nat_eq}
+use Rattle.wasm_types.specs.declared.module.ValType.{ValType}
+use Rattle.wasm_types.specs.declared.module.FuncType.{FuncType}
+use Rattle.wasm_types.specs.declared.module.Name.{Name}
+use Rattle.wasm_types.specs.declared.module.ExportKind.TheVariants as export
+use Rattle.wasm_types.specs.declared.module.Body.{Body}
+use Rattle.wasm_types.specs.declared.module.Module.{Module}
+use Rattle.wasm_types.specs.declared.place.Loc.{Loc}
+use Rattle.wasm_types.specs.declared.place.Node.{Node}
+use Rattle.wasm_types.specs.Code.{code_of, list_of}
+use Rattle.wasm_types.specs.Marked.{Marked, marked, unmarked, watched_at}
+use Rattle.wasm_types.specs.Spaces.{func_types, local_types, IsOwnFunc, HasBody}
+use Rattle.wasm_types.specs.Typing.{Context}
+use Rattle.wasm_types.specs.Actions.{Callees, callees}
+use Rattle.wasm_types.specs.Locations.{OfCalls}
+use Rattle.wasm_types.specs.Nodes.{every}
+use Rattle.wasm_types.specs.Sites.{Site, Sites, IsSite, EndAt, body_sites, body_ends}
+use Rattle.wasm_types.specs.Reaching.{HeadReads, HeadChecks, WritesAt}
+use Rattle.wasm_types.specs.Places.{TypesPlaces}
+use Rattle.flow_domain.specs.Kept.{Kept, Tells}
+use Rattle.flow_domain.specs.Cut.{cut_body}
+
+-- where the body of a function of this type stands
+abbrev pub context_of : Module → FuncType → Body → Context
+context_of m t b = record { inside = m; locals = local_types t b; result = t.results }
+
+-- the result of a type, if it has one
+abbrev pub result_type : FuncType → Option ValType
+result_type t = slice_get t.results 0
+
+-- the number of functions
+abbrev pub func_count : Module → ℕ
+func_count m = length (func_types m)
+
+-- a body's code, with some positions watched, and with position i watched
+abbrev pub watched_code : (ℕ → Bool) → Body → Marked
+watched_code w b = marked w 0 (code_of b.code)
+
+abbrev pub watched_once : Body → ℕ → Marked
+watched_once b i = watched_code (nat_eq i) b
+
+-- its sites and ends, of a body of this type
+abbrev pub sites_at : Callees → FuncType → Body → ℕ → Sites
+sites_at cs t b i = body_sites cs (length t.results) (watched_once b i)
+
+abbrev pub ends_at : Callees → FuncType → Body → ℕ → List EndAt
+ends_at cs t b i = body_ends cs (length t.results) (watched_once b i)
+
+-- the locations that a live position reads or checks, where calls check these
+pub record UsesAt (cs : Callees) (C : OfCalls) (S : Sites) (p : ℕ) (x : Loc) : Type 0 where
+  pub site : Site
+  pub is : IsSite S p site
+  pub uses : HeadReads cs site.head x ⊎ HeadChecks cs C site.head x
+
+-- Calls read, check and write nothing. No function that is sliced so far has a call.
+abbrev pub no_calls : OfCalls
+no_calls g x = ⊥
+
+-- the kept set of position i of a body of this type
+abbrev pub KeptAt : Callees → FuncType → Body → ℕ → Node → Type 0
+KeptAt cs t b i n =
+    let S = sites_at cs t b i in
+    Kept cs (WritesAt cs no_calls S) (UsesAt cs no_calls S) S (ends_at cs t b i) n
+
+-- the cut of a body, given the kept nodes and the types of the places. Every place is present
+abbrev pub cut_of : Callees → (Node → Bool) → (Node → ValType) → FuncType → Body → ℕ → Marked
+cut_of cs K T t b i = cut_body cs K every T (result_type t) (watched_once b i)
+
+-- the module with one function more, of a type number and a body, which is exported by a name
+abbrev pub appended : Module → ℕ → Body → Name → Module
+appended m type body name =
+    record m {
+      funcs = m.funcs ++ type ∷ [];
+      bodies = m.bodies ++ body ∷ [];
+      exports = m.exports ++ record { name = name; kind = export.Func; index = func_count m } ∷ [];
+    }
+
+-- `new` is the sliced module of own function f, the live position i of its body, and a name: m with one function appended, of f's type and locals and with
+-- the cut of its body, and with one export. The new function has the number of functions that m had. Position `at` of it is where position i of f went.
+pub record IsSliced (m : Module) (f i : ℕ) (name : Name) (new : Module) (at : ℕ) : Type 0 where
+  pub type : ℕ
+  pub own : IsOwnFunc m f type
+  pub kind : FuncType
+  pub kind_is : slice_get m.types type ≡ Some kind
+  pub body : Body
+  pub has_body : HasBody m f body
+  pub site : Site
+  pub live : IsSite (sites_at (callees m) kind body i) i site
+  pub kept : Node → Bool
+  pub exact : Tells kept (KeptAt (callees m) kind body i)
+  pub types : Node → ValType
+  pub typed : TypesPlaces (context_of m kind body) (sites_at (callees m) kind body i) types
+  pub is : new ≡ appended m type (record body { code = list_of (unmarked (cut_of (callees m) kept types kind body i)) }) name
+  pub at_is : at ≡ watched_at (cut_of (callees m) kept types kind body i)

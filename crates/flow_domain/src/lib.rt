@@ -1,0 +1,2 @@
+//! The definitions of the analyses: what is kept, what a cut is, and what a sliced module is. They speak of code, and of no run.
+#![tactic(auto)]
