@@ -2,3 +2,4 @@ pub mod Equal
 pub mod ActionLaws
 pub mod HostLaws
 pub mod Instructions
+mod Examples
