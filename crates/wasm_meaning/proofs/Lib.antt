@@ -1,3 +1,5 @@
-pub mod Examples
 pub mod Equal
+pub mod ActionLaws
+pub mod HostLaws
 pub mod Instructions
+mod Examples
