@@ -20,7 +20,7 @@ use Rattle.wasm_types.specs.declared.place.LimitKind.TheVariants as limit
 use Rattle.wasm_types.specs.declared.instr.Instr.{Instr}
 use Rattle.wasm_types.specs.declared.instr.Instr as instr
 use Rattle.wasm_types.specs.Code.{Code, done, one, block, repeat, branch, code_of, list_of, count, nest}
-use Rattle.wasm_types.specs.Marked.{unmarked}
+use Rattle.wasm_types.specs.Marked.{Marked, unmarked}
 use Rattle.wasm_types.specs.Sections.{local_count}
 use Rattle.wasm_types.specs.Sizes.{positions}
 use Rattle.wasm_types.specs.WellFormed.{IsU32, ProperName, ProperExport, ProperBody, ProperCode, IsWellFormed}
@@ -33,11 +33,10 @@ use Rattle.wasm_types.specs.Actions.{callees}
 use Rattle.wasm_types.specs.declared.place.Node.{Node}
 use Rattle.flow_domain.specs.Cut.{cut_body}
 use Rattle.flow_domain.specs.Sliced.{func_count, appended, context_of, result_type, watched_code}
-use Rattle.stack_repair.specs.Law.{HasExport, with_cut, IsSlice}
+use Rattle.stack_repair.specs.Law.{HasExport, with_cut, HasTypedBody, HasCut, BodyIsShort, SliceIsValid, SliceIsShort, SliceIsSpelled, SliceIsSealed}
 use Rattle.stack_repair.proofs.Counting.{unmarked-marked, cut_is_short, cut_nests_no_deeper}
-use Rattle.stack_repair.proofs.CodeBack.{code_back}
 use Rattle.stack_repair.proofs.Every.{cut_integer, cut_proper}
-use Rattle.stack_repair.proofs.Bodies.{at_of, body_code, code_leads, cut_is_valid}
+use Rattle.stack_repair.proofs.Bodies.{at_of, cut_back, cut_is_valid}
 use Rattle.stack_repair.proofs.Bytes.{cut_is_small, appended_size}
 use Rattle.wasm_types.specs.Canon.{canon_code, canon}
 use Rattle.wasm_types.specs.Modules.{Spells}
@@ -290,85 +289,88 @@ type_at m f type F (le, at) is =
     get_back [] ys k = ap (slice_get ys) (omega arith)
     get_back (x ∷ xs) ys k = let e : length (x ∷ xs) + k ≡ suc (length xs + k) = omega arith in ap (slice_get (x ∷ (xs ++ ys))) e ∙ get_back xs ys k
 
-pub slice_is_valid : (m : Module) → IsValid m → InSubset m → (type : ℕ) (F : FuncType) (b : Body) (w : ℕ → Bool) (K P : Node → Bool) (T : Node → ValType) (name : Name) → IsSlice m type F b w K P T name
-    → IsValid (appended m type (with_cut (callees m) K P T w F b) name) × HasNoFloat (appended m type (with_cut (callees m) K P T w F b) name)
-    × WithinLimits most_answered (appended m type (with_cut (callees m) K P T w F b) name)
-    × ((most : ℕ) → NestsAtMost most m → NestsAtMost most (appended m type (with_cut (callees m) K P T w F b) name))
-slice_is_valid m valid sub type F b w K P T name h =
-    let cs = callees m in
-    let d = cut_body cs K P T (result_type F) (watched_code w b) in
-    let at = type_at m h.func type F h.own h.kind_is in
-    let k = body_code m valid sub.no_float h.func F b at h.has_body in
-    let lead = code_leads (context_of m F b) (result_type F) (code_of b.code) w K P T k h.types h.needed in
-    let back : code_of (list_of (unmarked d)) ≡ unmarked d = code_back (context_of m F b) (F.results ∷ []) (unmarked d) [] (values_of (result_type F)) lead in
-    let same = unmarked-marked w 0 (code_of b.code) in
-    let proper = at_of ProperBody m.bodies (h.func - import_count m) b valid.0.bodies h.has_body.1 in
-    let integer = sub.no_float (part.FuncAt h.func) b h.has_body in
-    let few = sub.limits limit.Positions h.func (positions b.code) (b, h.has_body, refl) in
-    let n1 = length-flatten (code_of b.code) in
-    let n2 = length-flatten (code_of (list_of (unmarked d))) in
-    let n3 = ap count back in
-    let n4 = cut_is_short cs K P T (result_type F) w (code_of b.code) in
-    let d1 = ap nest back in
-    let d2 = cut_nests_no_deeper cs K P T (result_type F) w (code_of b.code) in
-    let room = sub.limits limit.Functions 0 (func_count m) (refl, refl) in
-    let fits : Fits m type F (with_cut cs K P T w F b) name = record {
-      type_is = h.kind_is;
-      number = at_of IsU32 m.funcs (h.func - import_count m) type valid.0.funcs h.own.1;
-      proper = (proper.0, proper.1, subst ProperCode (sym back) (cut_proper cs K P T (result_type F) (watched_code w b) 0 [] (subst ProperCode (sym same) proper.2)));
-      integer = (integer.0, subst IsIntegerCode (sym back) (cut_integer cs K P T (result_type F) (watched_code w b) 0 [] (subst IsIntegerCode (sym same) integer.1)));
-      valid = cut_is_valid m valid sub.no_float h.func F b at h.has_body w K P T h.types h.needed;
-      name_is = h.proper;
-      free = h.free;
-      room = omega arith;
-    } in (
-      valid_appended m type F (with_cut cs K P T w F b) name valid fits,
-      integer_appended m type F (with_cut cs K P T w F b) name sub.no_float fits,
-      limits_appended m type F (with_cut cs K P T w F b) name sub.limits (sub.limits limit.Locals h.func (local_count b.locals) (b, h.has_body, refl)) (omega arith),
-      λ most deep. nesting_appended m type F (with_cut cs K P T w F b) name most deep (let d0 = at_of (λ (x : Body). nest (code_of x.code) ≤ most) m.bodies (h.func - import_count m) b deep.bodies h.has_body.1 in omega arith),
-    )
+-- an own function of a type has that type, and a body of it
+pub own_body : (m : Module) → IsValid m → HasNoFloat m → (f type : ℕ) (F : FuncType) (b : Body) → IsOwnFunc m f type → slice_get m.types type ≡ Some F → HasBody m f b → HasTypedBody m F b
+own_body m valid nofl f type F b own is has = record { valid = valid; no_float = nofl; func = f; kind_is = type_at m f type F own is; has_body = has }
 
-pub slice_is_short : (m : Module) → IsValid m → InSubset m → (type : ℕ) (F : FuncType) (b : Body) (w : ℕ → Bool) (K P : Node → Bool) (T : Node → ValType) (name : Name) → IsSlice m type F b w K P T name
-    → length (canon (appended m type (with_cut (callees m) K P T w F b) name)) ≤ 5 * length (canon m) + length name.bytes + 64
-slice_is_short m valid sub type F b w K P T name h =
-    let cs = callees m in
-    let d = cut_body cs K P T (result_type F) (watched_code w b) in
-    let at = type_at m h.func type F h.own h.kind_is in
-    let k = body_code m valid sub.no_float h.func F b at h.has_body in
-    let back = code_back (context_of m F b) (F.results ∷ []) (unmarked d) [] (values_of (result_type F)) (code_leads (context_of m F b) (result_type F) (code_of b.code) w K P T k h.types h.needed) in
-    let small = cut_is_small cs K P T (result_type F) w (code_of b.code) in
-    let same = ap (λ z. length (canon_code z)) back in
-    appended_size m type (h.func - import_count m) b (list_of (unmarked d)) name h.has_body.1 (omega arith)
+module _ (m : Module) (name : Name) (slice : Module) (valid : IsValid m) (sub : InSubset m) (h : HasCut m name slice) where
+  abbrev cut_code : Marked
+  cut_code = cut_body (callees m) h.kept h.present h.types (result_type h.kind) (watched_code h.watched h.body)
 
-pub slice_is_spelled : (m : Module) → IsValid m → InSubset m → (type : ℕ) (F : FuncType) (b : Body) (w : ℕ → Bool) (K P : Node → Bool) (T : Node → ValType) (name : Name) → IsSlice m type F b w K P T name
-    → length (canon m) < 2 ^ 28 → length name.bytes < 2 ^ 28 → (new : Module) → new ≡ appended m type (with_cut (callees m) K P T w F b) name
-    → (length (canon new) < 2 ^ 32) × Spells (canon new) new × ((other : Module) → Spells (canon new) other → new ≡ other)
-slice_is_spelled m valid sub type F b w K P T name h lt lt' new e =
-    let short = slice_is_short m valid sub type F b w K P T name h in
-    let same = ap (λ z. length (canon z)) e in
+  abbrev cut : Body
+  cut = with_cut (callees m) h.kept h.present h.types h.watched h.kind h.body
+
+  typed_body : HasTypedBody m h.kind h.body
+  typed_body = own_body m valid sub.no_float h.func h.type h.kind h.body h.own h.kind_is h.has_body
+
+  back : code_of cut.code ≡ unmarked cut_code
+  back = cut_back m h.kind h.body typed_body h.watched h.kept h.present h.types h.typed h.needed
+
+  body_short : (positions cut.code ≤ 2 * positions h.body.code) × (nest (code_of cut.code) ≤ nest (code_of h.body.code))
+  body_short =
+      let n1 = length-flatten (code_of h.body.code) in
+      let n2 = length-flatten (code_of cut.code) in
+      let n3 = ap count back in
+      let n4 = cut_is_short (callees m) h.kept h.present h.types (result_type h.kind) h.watched (code_of h.body.code) in
+      let d1 = ap nest back in
+      let d2 = cut_nests_no_deeper (callees m) h.kept h.present h.types (result_type h.kind) h.watched (code_of h.body.code) in
+      (omega arith, omega arith)
+
+  cut_fits : Fits m h.type h.kind cut name
+  cut_fits =
+      let same = unmarked-marked h.watched 0 (code_of h.body.code) in
+      let proper = at_of ProperBody m.bodies (h.func - import_count m) h.body valid.0.bodies h.has_body.1 in
+      let integer = sub.no_float (part.FuncAt h.func) h.body h.has_body in
+      let d = watched_code h.watched h.body in
+      let room = sub.limits limit.Functions 0 (func_count m) (refl, refl) in
+      record {
+        type_is = h.kind_is;
+        number = at_of IsU32 m.funcs (h.func - import_count m) h.type valid.0.funcs h.own.1;
+        proper = (proper.0, proper.1, subst ProperCode (sym back) (cut_proper (callees m) h.kept h.present h.types (result_type h.kind) d 0 [] (subst ProperCode (sym same) proper.2)));
+        integer = (integer.0, subst IsIntegerCode (sym back) (cut_integer (callees m) h.kept h.present h.types (result_type h.kind) d 0 [] (subst IsIntegerCode (sym same) integer.1)));
+        valid = cut_is_valid m h.kind h.body typed_body h.watched h.kept h.present h.types h.typed h.needed;
+        name_is = h.proper;
+        free = h.free;
+        room = omega arith;
+      }
+
+  slice_valid : IsValid slice × HasNoFloat slice × WithinLimits most_answered slice × ((most : ℕ) → NestsAtMost most m → NestsAtMost most slice)
+  slice_valid =
+      let few = sub.limits limit.Positions h.func (positions h.body.code) (h.body, h.has_body, refl) in
+      let short = body_short in
+      let twice = short.0 in
+      let deep = short.1 in
+      subst (λ z. IsValid z × HasNoFloat z × WithinLimits most_answered z × ((most : ℕ) → NestsAtMost most m → NestsAtMost most z)) (sym h.is) (
+        valid_appended m h.type h.kind cut name valid cut_fits,
+        integer_appended m h.type h.kind cut name sub.no_float cut_fits,
+        limits_appended m h.type h.kind cut name sub.limits (sub.limits limit.Locals h.func (local_count h.body.locals) (h.body, h.has_body, refl)) (omega arith),
+        λ most most_deep. nesting_appended m h.type h.kind cut name most most_deep (let d0 = at_of (λ (x : Body). nest (code_of x.code) ≤ most) m.bodies (h.func - import_count m) h.body most_deep.bodies h.has_body.1 in omega arith),
+      )
+
+  slice_short : length (canon slice) ≤ 5 * length (canon m) + length name.bytes + 64
+  slice_short =
+      let small = cut_is_small (callees m) h.kept h.present h.types (result_type h.kind) h.watched (code_of h.body.code) in
+      let same = ap (λ z. length (canon_code z)) back in
+      subst (λ z. length (canon z) ≤ 5 * length (canon m) + length name.bytes + 64) (sym h.is) (appended_size m h.type (h.func - import_count m) h.body (list_of (unmarked cut_code)) name h.has_body.1 (omega arith))
+
+pub body_is_short : BodyIsShort
+body_is_short m name new valid sub h = body_short m name new valid sub h
+
+pub slice_is_valid : SliceIsValid
+slice_is_valid m name new valid sub h = slice_valid m name new valid sub h
+
+pub slice_is_short : SliceIsShort
+slice_is_short m name new valid sub h = slice_short m name new valid sub h
+
+pub slice_is_spelled : SliceIsSpelled
+slice_is_spelled m name new valid sub h lt lt' =
+    let short = slice_short m name new valid sub h in
     let fit : length (canon new) < 2 ^ 32 = omega arith in
-    let well = subst IsWellFormed (sym e) (slice_is_valid m valid sub type F b w K P T name h).0.0 in
-    let spelled = canon_spelled new well fit in
+    let spelled = canon_spelled new (slice_valid m name new valid sub h).0.0 fit in
     (fit, spelled, λ other is. one_module (canon new) new other spelled is)
 
-pub slice_is_sealed : (m : Module) → IsValid m → InSubset m → (type : ℕ) (F : FuncType) (b : Body) (w : ℕ → Bool) (K P : Node → Bool) (T : Node → ValType) (name : Name) → IsSlice m type F b w K P T name
-    → length (canon m) < 2 ^ 28 → length name.bytes < 2 ^ 28 → IsSealed (appended m type (with_cut (callees m) K P T w F b) name)
-slice_is_sealed m valid sub type F b w K P T name h lt lt' =
-    let a = slice_is_valid m valid sub type F b w K P T name h in
-    let short = slice_is_short m valid sub type F b w K P T name h in
-    record { valid = a.0; no_float = a.1; limits = a.2; nesting = a.3 most_nesting sub.nesting; entries = has_at_most (appended m type (with_cut (callees m) K P T w F b) name) 0xFFFF_FFFF (omega arith) }
-
-pub body_is_short : (m : Module) → IsValid m → InSubset m → (type : ℕ) (F : FuncType) (b : Body) (w : ℕ → Bool) (K P : Node → Bool) (T : Node → ValType) (name : Name) → IsSlice m type F b w K P T name
-    → (positions (with_cut (callees m) K P T w F b).code ≤ 2 * positions b.code) × (nest (code_of (with_cut (callees m) K P T w F b).code) ≤ nest (code_of b.code))
-body_is_short m valid sub type F b w K P T name h =
-    let cs = callees m in
-    let d = cut_body cs K P T (result_type F) (watched_code w b) in
-    let k = body_code m valid sub.no_float h.func F b (type_at m h.func type F h.own h.kind_is) h.has_body in
-    let back = code_back (context_of m F b) (F.results ∷ []) (unmarked d) [] (values_of (result_type F)) (code_leads (context_of m F b) (result_type F) (code_of b.code) w K P T k h.types h.needed) in
-    let n1 = length-flatten (code_of b.code) in
-    let n2 = length-flatten (code_of (list_of (unmarked d))) in
-    let n3 = ap count back in
-    let n4 = cut_is_short cs K P T (result_type F) w (code_of b.code) in
-    let d1 = ap nest back in
-    let d2 = cut_nests_no_deeper cs K P T (result_type F) w (code_of b.code) in
-    (omega arith, omega arith)
+pub slice_is_sealed : SliceIsSealed
+slice_is_sealed m name new valid sub h lt lt' =
+    let a = slice_valid m name new valid sub h in
+    let short = slice_short m name new valid sub h in
+    record { valid = a.0; no_float = a.1; limits = a.2; nesting = a.3 most_nesting sub.nesting; entries = has_at_most new 0xFFFF_FFFF (omega arith) }

@@ -16,7 +16,7 @@ use Rattle.wasm_types.specs.declared.module.Body.{Body}
 use Rattle.wasm_types.specs.declared.module.Module.{Module}
 use Rattle.wasm_types.specs.declared.place.Part.TheVariants as part
 use Rattle.wasm_types.specs.Code.{Code, code_of, list_of}
-use Rattle.wasm_types.specs.Marked.{marked, unmarked}
+use Rattle.wasm_types.specs.Marked.{Marked, marked, unmarked, size}
 use Rattle.wasm_types.specs.Spaces.{type_of_func, func_types, imported, global_import, global_kind, run_types, local_types, HasBody}
 use Rattle.wasm_types.specs.Typing.{Context}
 use Rattle.wasm_types.specs.Validity.{values_of, Leads, IsValidBody, IsValid}
@@ -26,19 +26,22 @@ use Rattle.wasm_types.specs.Labels.{arity, body_label}
 use Rattle.wasm_types.specs.declared.place.Node.{Node}
 use Rattle.wasm_types.specs.declared.place.Node.TheVariants.{Exit}
 use Rattle.wasm_types.specs.Sites.{body_sites, body_ends, one_end, end_names, inner_ends}
+use Rattle.wasm_types.specs.Places.{TypesPlaces}
+use Rattle.flow_domain.specs.Heights.{Shaped}
 use Rattle.flow_domain.specs.Cut.{cut_body}
-use Rattle.stack_repair.proofs.Live.{TypesLive}
+use Rattle.stack_repair.proofs.Live.{TypesLive, live_of}
 use Rattle.flow_domain.specs.Presence.{HoldsNeeded, at_exit}
 use Rattle.flow_domain.specs.Sliced.{context_of, result_type, watched_code}
-use Rattle.stack_repair.specs.Law.{with_cut}
+use Rattle.stack_repair.specs.Law.{sites_in, ends_in, with_cut, HasTypedBody, HasTypes, ValidHasHeights, CutIsOne, CutIsValid}
 use Rattle.stack_repair.proofs.Counting.{unmarked-marked}
-use Rattle.wasm_types.proofs.Shapes.{Integers, IsInteger_context, numbered}
+use Rattle.wasm_types.proofs.Shapes.{Integers, IsIntegerContext, numbered}
 use Rattle.stack_repair.proofs.Typed.{Typed, by_kind, typed_of}
 use Rattle.stack_repair.proofs.CutTyping.{label_body, cut_leads}
 use Rattle.stack_repair.proofs.Positions.{has_all, among_left, among_right, among_end, all_first}
 use Rattle.stack_repair.proofs.Needed.{shows_of}
 use Rattle.stack_repair.proofs.CodeBack.{code_back}
-use Rattle.stack_repair.proofs.PlaceTypes.{one_cut}
+use Rattle.stack_repair.proofs.PlaceTypes.{types_exist, one_cut}
+use Rattle.stack_repair.proofs.Heights.{numbered_body, shaped_of}
 
 -- ---- lists
 
@@ -92,7 +95,7 @@ globals_integer : (gs : List GlobalDef) → Each (λ (g : GlobalDef). IsInteger 
 globals_integer [] h k g at = absurd cc
 globals_integer (x ∷ gs) h k g at = each_cons (λ (g : GlobalType). IsInteger g.kind) x.kind (map global_kind gs) (h 0 x refl) (globals_integer gs (λ k y at. h (suc k) y at)) k g at
 
-pub context_integer : (m : Module) → IsValid m → HasNoFloat m → (f : ℕ) (F : FuncType) (b : Body) → type_of_func m f ≡ Some F → HasBody m f b → IsInteger_context (context_of m F b)
+pub context_integer : (m : Module) → IsValid m → HasNoFloat m → (f : ℕ) (F : FuncType) (b : Body) → type_of_func m f ≡ Some F → HasBody m f b → IsIntegerContext (context_of m F b)
 context_integer m valid nofl f F b at has = record {
   locals = λ x k get. at_of IsInteger (local_types F b) x k (All-append IsInteger F.params (run_types b.locals) params (runs_integer b.locals (nofl (part.FuncAt f) b has).0)) get;
   globals = each_append (λ (g : GlobalType). IsInteger g.kind) (imported global_import m.imports) (map global_kind m.globals)
@@ -133,7 +136,7 @@ result_integer (k ∷ rs) i = i.0
 
 -- what is known of the code of a body
 pub record BodyCode (c : Context) (t : Option ValType) (code : Code) : Type 0 where
-  pub numbers : IsInteger_context c
+  pub numbers : IsIntegerContext c
   pub integer : IsIntegerCode code
   pub kind : IsIntegerKind t
   pub values : values_of t ≡ c.result
@@ -177,23 +180,49 @@ code_leads c t code w K P T k ty has =
     (λ ns e le. all_first P (arity t) ns le (λ x a. has x (at_exit _ (among_left e1 (inner_ends cs d 0 []) _ (among_end Exit n ns (end_names cs d 0 []) e)) refl (subst (λ z. (i : ℕ) × (i < z) × (slice_get ns i ≡ Some x)) k.arity a))))
     (λ z a. among_right e1 (inner_ends cs d 0 []) z a))
 
-pub cut_is_valid : (m : Module) → IsValid m → HasNoFloat m → (f : ℕ) (F : FuncType) (b : Body) → type_of_func m f ≡ Some F → HasBody m f b
-    → (w : ℕ → Bool) (K P : Node → Bool) (T : Node → ValType)
-    → TypesLive (context_of m F b) T (watched_code w b) 0 []
-    → HoldsNeeded (callees m) (body_sites (callees m) (length F.results) (watched_code w b)) (body_ends (callees m) (length F.results) (watched_code w b)) K P
-    → IsValidBody m F (with_cut (callees m) K P T w F b)
-cut_is_valid m valid nofl f F b at has w K P T ty needed =
-    let c = context_of m F b in
-    let k = body_code m valid nofl f F b at has in
-    let h = code_leads c (result_type F) (code_of b.code) w K P T k ty needed in
-    let back = code_back c (F.results ∷ []) (unmarked (cut_body (callees m) K P T (result_type F) (watched_code w b))) [] (values_of (result_type F)) h in
-    subst (λ z. Leads c (F.results ∷ []) z [] F.results) (sym back) (subst (λ z. Leads c (F.results ∷ []) (unmarked (cut_body (callees m) K P T (result_type F) (watched_code w b))) [] z) k.values h)
+-- ---- the body's sites
 
-pub cut_is_one : (m : Module) → IsValid m → HasNoFloat m → (f : ℕ) (F : FuncType) (b : Body) → type_of_func m f ≡ Some F → HasBody m f b
-    → (w : ℕ → Bool) (K P : Node → Bool) (T T' : Node → ValType)
-    → TypesLive (context_of m F b) T (watched_code w b) 0 [] → TypesLive (context_of m F b) T' (watched_code w b) 0 []
-    → with_cut (callees m) K P T w F b ≡ with_cut (callees m) K P T' w F b
-cut_is_one m valid nofl f F b at has w K P T T' ty ty' =
+live_body : (c : Context) (n : ℕ) (d : Marked) (T : Node → ValType) → TypesPlaces c (body_sites (callees c.inside) n d) T → TypesLive c T d 0 []
+live_body c n d T ty = let S = body_sites (callees c.inside) n d in live_of c S T ty d (body_label n (size d) ∷ []) Exit 0 [] (has_all [] S 0 refl)
+
+-- what is known of a body of a valid module, and of its cut
+pub typed_body : (m : Module) (F : FuncType) (b : Body) → HasTypedBody m F b → BodyCode (context_of m F b) (result_type F) (code_of b.code)
+typed_body m F b h = body_code m h.valid h.no_float h.func F b h.kind_is h.has_body
+
+pub cut_leads_on : (m : Module) (F : FuncType) (b : Body) → HasTypedBody m F b → (w : ℕ → Bool) (K P : Node → Bool) (T : Node → ValType)
+    → TypesPlaces (context_of m F b) (sites_in m F w b) T → HoldsNeeded (callees m) (sites_in m F w b) (ends_in m F w b) K P
+    → Leads (context_of m F b) (F.results ∷ []) (unmarked (cut_body (callees m) K P T (result_type F) (watched_code w b))) [] (values_of (result_type F))
+cut_leads_on m F b h w K P T ty needed =
+    let c = context_of m F b in code_leads c (result_type F) (code_of b.code) w K P T (typed_body m F b h) (live_body c (length F.results) (watched_code w b) T ty) needed
+
+pub cut_back : (m : Module) (F : FuncType) (b : Body) → HasTypedBody m F b → (w : ℕ → Bool) (K P : Node → Bool) (T : Node → ValType)
+    → TypesPlaces (context_of m F b) (sites_in m F w b) T → HoldsNeeded (callees m) (sites_in m F w b) (ends_in m F w b) K P
+    → code_of (with_cut (callees m) K P T w F b).code ≡ unmarked (cut_body (callees m) K P T (result_type F) (watched_code w b))
+cut_back m F b h w K P T ty needed =
+    code_back (context_of m F b) (F.results ∷ []) (unmarked (cut_body (callees m) K P T (result_type F) (watched_code w b))) [] (values_of (result_type F)) (cut_leads_on m F b h w K P T ty needed)
+
+pub cut_is_valid : CutIsValid
+cut_is_valid m F b h w K P T ty needed =
     let c = context_of m F b in
-    let typed = typed_code c (result_type F) (code_of b.code) w T (body_code m valid nofl f F b at has) ty in
-    ap (λ z. record b { code = list_of (unmarked z) }) (one_cut c K P T T' (F.results ∷ []) (result_type F) (watched_code w b) 0 [] typed ty' refl)
+    let cut = unmarked (cut_body (callees m) K P T (result_type F) (watched_code w b)) in
+    subst (λ z. Leads c (F.results ∷ []) z [] F.results) (sym (cut_back m F b h w K P T ty needed))
+    (subst (λ z. Leads c (F.results ∷ []) cut [] z) (typed_body m F b h).values (cut_leads_on m F b h w K P T ty needed))
+
+pub cut_is_one : CutIsOne
+cut_is_one m F b h w K P T T' ty ty' =
+    let c = context_of m F b in
+    let d = watched_code w b in
+    let n = length F.results in
+    let typed = typed_code c (result_type F) (code_of b.code) w T (typed_body m F b h) (live_body c n d T ty) in
+    ap (λ z. record b { code = list_of (unmarked z) }) (one_cut c K P T T' (F.results ∷ []) (result_type F) d 0 [] typed (live_body c n d T' ty') refl)
+
+-- ---- heights
+
+pub valid_has_heights : ValidHasHeights
+valid_has_heights m F b h w =
+    let c = context_of m F b in
+    let d = watched_code w b in
+    let k = typed_body m F b h in
+    let t = types_exist c d in
+    let ty = typed_code c (result_type F) (code_of b.code) w t.0 k t.1 in
+    subst (λ z. Shaped (callees m) (HasTypes c) (length F.results ∷ []) z d 0) k.arity (shaped_of c t.0 (HasTypes c) (λ op s r h. (s, r, h)) (length F.results ∷ []) (F.results ∷ []) (result_type F) d 0 0 [] refl (numbered_body F.results) ty)

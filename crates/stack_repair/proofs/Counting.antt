@@ -109,22 +109,28 @@ size-cut cs K P T t (Do m op rest) p names =
     let f = more-few P (leaves cs op) (At p) in
     let g = size-drops (shown P (take (takes cs op) names)) (filler P (result_of (leaves cs op) (T (At p))) (At p) d) in
     let h = size-filler_result P (leaves cs op) (T (At p)) (At p) d in
-    pick_within (K (At p)) _ _ _ (omega arith) (omega arith)
+    pick_within (K (At p)) (Do m op d) (drops (shown P (take (takes cs op) names)) (filler P (result_of (leaves cs op) (T (At p))) (At p) d)) (2 * size (Do m op rest) + shown P names) (omega arith) (omega arith)
 size-cut cs K P T t (Block m kind body rest) p names =
+    let d = cut cs K P T t rest (p + 1 + size body) (named (arity kind) (Join p) names) in
+    let inner = cut cs K P T kind body (p + 1) [] in
     let a = size-cut cs K P T t rest (p + 1 + size body) (named (arity kind) (Join p) names) in
     let b = shown-named P (arity kind) (Join p) names in
     let e = size-cut cs K P T kind body (p + 1) [] in
     let f = more-few P (arity kind) (Join p) in
     let h = size-filler P kind (Join p) (cut cs K P T t rest (p + 1 + size body) (named (arity kind) (Join p) names)) in
-    pick_within (K (At p)) _ _ _ (omega arith) (omega arith)
+    pick_within (K (At p)) (Block m kind inner d) (filler P kind (Join p) d) (2 * size (Block m kind body rest) + shown P names) (omega arith) (omega arith)
 size-cut cs K P T t (Loop m kind body rest) p names =
+    let d = cut cs K P T t rest (p + 1 + size body) (named (arity kind) (Join p) names) in
+    let inner = cut cs K P T kind body (p + 1) [] in
     let a = size-cut cs K P T t rest (p + 1 + size body) (named (arity kind) (Join p) names) in
     let b = shown-named P (arity kind) (Join p) names in
     let e = size-cut cs K P T kind body (p + 1) [] in
     let f = more-few P (arity kind) (Join p) in
     let h = size-filler P kind (Join p) (cut cs K P T t rest (p + 1 + size body) (named (arity kind) (Join p) names)) in
-    pick_within (K (At p)) _ _ _ (omega arith) (omega arith)
+    pick_within (K (At p)) (Loop m kind inner d) (filler P kind (Join p) d) (2 * size (Loop m kind body rest) + shown P names) (omega arith) (omega arith)
 size-cut cs K P T t (If m kind x y rest) p names =
+    let in_x = cut cs K P T kind x (p + 1) [] in
+    let in_y = cut cs K P T kind y (p + 1 + size x) [] in
     let d = cut cs K P T t rest (p + 1 + size x + size y) (named (arity kind) (Join p) (drop 1 names)) in
     let a = size-cut cs K P T t rest (p + 1 + size x + size y) (named (arity kind) (Join p) (drop 1 names)) in
     let b = shown-named P (arity kind) (Join p) (drop 1 names) in
@@ -134,21 +140,21 @@ size-cut cs K P T t (If m kind x y rest) p names =
     let g = size-drops (shown P (take 1 names)) (filler P kind (Join p) d) in
     let i = shown-split P 1 names in
     let h = size-filler P kind (Join p) d in
-    pick_within (K (At p)) _ _ _ (omega arith) (omega arith)
+    pick_within (K (At p)) (If m kind in_x in_y d) (drops (shown P (take 1 names)) (filler P kind (Join p) d)) (2 * size (If m kind x y rest) + shown P names) (omega arith) (omega arith)
 size-cut cs K P T t (Br m l rest) p names =
-    let g = size-drops (shown P names) (zeros t End) in let z = size-zeros t in pick_within (K (At p)) _ _ _ (omega arith) (omega arith)
+    let g = size-drops (shown P names) (zeros t End) in let z = size-zeros t in pick_within (K (At p)) (Br m l End) (drops (shown P names) (zeros t End)) (2 * size (Br m l rest) + shown P names) (omega arith) (omega arith)
 size-cut cs K P T t (BrIf m l rest) p names =
     let d = cut cs K P T t rest (p + 1) (drop 1 names) in
     let a = size-cut cs K P T t rest (p + 1) (drop 1 names) in
     let g = size-drops (shown P (take 1 names)) d in
     let i = shown-split P 1 names in
-    pick_within (K (At p)) _ _ _ (omega arith) (omega arith)
+    pick_within (K (At p)) (BrIf m l d) (drops (shown P (take 1 names)) d) (2 * size (BrIf m l rest) + shown P names) (omega arith) (omega arith)
 size-cut cs K P T t (BrTable m labels other rest) p names =
-    let g = size-drops (shown P names) (zeros t End) in let z = size-zeros t in pick_within (K (At p)) _ _ _ (omega arith) (omega arith)
+    let g = size-drops (shown P names) (zeros t End) in let z = size-zeros t in pick_within (K (At p)) (BrTable m labels other End) (drops (shown P names) (zeros t End)) (2 * size (BrTable m labels other rest) + shown P names) (omega arith) (omega arith)
 size-cut cs K P T t (Return m rest) p names =
-    let g = size-drops (shown P names) (zeros t End) in let z = size-zeros t in pick_within (K (At p)) _ _ _ (omega arith) (omega arith)
+    let g = size-drops (shown P names) (zeros t End) in let z = size-zeros t in pick_within (K (At p)) (Return m End) (drops (shown P names) (zeros t End)) (2 * size (Return m rest) + shown P names) (omega arith) (omega arith)
 size-cut cs K P T t (Unreachable m rest) p names =
-    let g = size-drops (shown P names) (zeros t End) in let z = size-zeros t in pick_within (K (At p)) _ _ _ (omega arith) (omega arith)
+    let g = size-drops (shown P names) (zeros t End) in let z = size-zeros t in pick_within (K (At p)) (Unreachable m End) (drops (shown P names) (zeros t End)) (2 * size (Unreachable m rest) + shown P names) (omega arith) (omega arith)
 
 size-marked : (w : ℕ → Bool) (c : Code) → size (marked w 0 c) ≡ count c
 size-marked w c = sym (count-unmarked (marked w 0 c)) ∙ ap count (unmarked-marked w 0 c)
@@ -189,35 +195,40 @@ nest-cut cs K P T t (Do m op rest) p names =
     let a = nest-cut cs K P T t rest (p + 1) (made cs p op names) in
     let g = nest-drops (shown P (take (takes cs op) names)) (filler P (result_of (leaves cs op) (T (At p))) (At p) d) in
     let h = nest-filler P (result_of (leaves cs op) (T (At p))) (At p) d in
-    pick_nests (K (At p)) _ _ _ a (omega arith)
+    pick_nests (K (At p)) (Do m op d) (drops (shown P (take (takes cs op) names)) (filler P (result_of (leaves cs op) (T (At p))) (At p) d)) (nest (unmarked (Do m op rest))) a (omega arith)
 nest-cut cs K P T t (Block m kind body rest) p names =
+    let inner = cut cs K P T kind body (p + 1) [] in
     let d = cut cs K P T t rest (p + 1 + size body) (named (arity kind) (Join p) names) in
     let a = nest-cut cs K P T t rest (p + 1 + size body) (named (arity kind) (Join p) names) in
     let e = nest-cut cs K P T kind body (p + 1) [] in
     let h = nest-filler P kind (Join p) d in
-    pick_nests (K (At p)) _ _ _ (omega arith) (omega arith)
+    pick_nests (K (At p)) (Block m kind inner d) (filler P kind (Join p) d) (nest (unmarked (Block m kind body rest))) (omega arith) (omega arith)
 nest-cut cs K P T t (Loop m kind body rest) p names =
+    let inner = cut cs K P T kind body (p + 1) [] in
     let d = cut cs K P T t rest (p + 1 + size body) (named (arity kind) (Join p) names) in
     let a = nest-cut cs K P T t rest (p + 1 + size body) (named (arity kind) (Join p) names) in
     let e = nest-cut cs K P T kind body (p + 1) [] in
     let h = nest-filler P kind (Join p) d in
-    pick_nests (K (At p)) _ _ _ (omega arith) (omega arith)
+    pick_nests (K (At p)) (Loop m kind inner d) (filler P kind (Join p) d) (nest (unmarked (Loop m kind body rest))) (omega arith) (omega arith)
 nest-cut cs K P T t (If m kind x y rest) p names =
+    let in_x = cut cs K P T kind x (p + 1) [] in
+    let in_y = cut cs K P T kind y (p + 1 + size x) [] in
     let d = cut cs K P T t rest (p + 1 + size x + size y) (named (arity kind) (Join p) (drop 1 names)) in
     let a = nest-cut cs K P T t rest (p + 1 + size x + size y) (named (arity kind) (Join p) (drop 1 names)) in
     let e = nest-cut cs K P T kind x (p + 1) [] in
     let e' = nest-cut cs K P T kind y (p + 1 + size x) [] in
     let g = nest-drops (shown P (take 1 names)) (filler P kind (Join p) d) in
     let h = nest-filler P kind (Join p) d in
-    pick_nests (K (At p)) _ _ _ (omega arith) (omega arith)
-nest-cut cs K P T t (Br m l rest) p names = let g = nest-drops (shown P names) (zeros t End) in let z = nest-zeros t in pick_nests (K (At p)) _ _ _ (omega arith) (omega arith)
+    pick_nests (K (At p)) (If m kind in_x in_y d) (drops (shown P (take 1 names)) (filler P kind (Join p) d)) (nest (unmarked (If m kind x y rest))) (omega arith) (omega arith)
+nest-cut cs K P T t (Br m l rest) p names = let g = nest-drops (shown P names) (zeros t End) in let z = nest-zeros t in pick_nests (K (At p)) (Br m l End) (drops (shown P names) (zeros t End)) (nest (unmarked (Br m l rest))) (omega arith) (omega arith)
 nest-cut cs K P T t (BrIf m l rest) p names =
+    let d = cut cs K P T t rest (p + 1) (drop 1 names) in
     let a = nest-cut cs K P T t rest (p + 1) (drop 1 names) in
     let g = nest-drops (shown P (take 1 names)) (cut cs K P T t rest (p + 1) (drop 1 names)) in
-    pick_nests (K (At p)) _ _ _ a (omega arith)
-nest-cut cs K P T t (BrTable m labels other rest) p names = let g = nest-drops (shown P names) (zeros t End) in let z = nest-zeros t in pick_nests (K (At p)) _ _ _ (omega arith) (omega arith)
-nest-cut cs K P T t (Return m rest) p names = let g = nest-drops (shown P names) (zeros t End) in let z = nest-zeros t in pick_nests (K (At p)) _ _ _ (omega arith) (omega arith)
-nest-cut cs K P T t (Unreachable m rest) p names = let g = nest-drops (shown P names) (zeros t End) in let z = nest-zeros t in pick_nests (K (At p)) _ _ _ (omega arith) (omega arith)
+    pick_nests (K (At p)) (BrIf m l d) (drops (shown P (take 1 names)) d) (nest (unmarked (BrIf m l rest))) a (omega arith)
+nest-cut cs K P T t (BrTable m labels other rest) p names = let g = nest-drops (shown P names) (zeros t End) in let z = nest-zeros t in pick_nests (K (At p)) (BrTable m labels other End) (drops (shown P names) (zeros t End)) (nest (unmarked (BrTable m labels other rest))) (omega arith) (omega arith)
+nest-cut cs K P T t (Return m rest) p names = let g = nest-drops (shown P names) (zeros t End) in let z = nest-zeros t in pick_nests (K (At p)) (Return m End) (drops (shown P names) (zeros t End)) (nest (unmarked (Return m rest))) (omega arith) (omega arith)
+nest-cut cs K P T t (Unreachable m rest) p names = let g = nest-drops (shown P names) (zeros t End) in let z = nest-zeros t in pick_nests (K (At p)) (Unreachable m End) (drops (shown P names) (zeros t End)) (nest (unmarked (Unreachable m rest))) (omega arith) (omega arith)
 
 pub cut_nests_no_deeper : (cs : Callees) (K P : Node → Bool) (T : Node → ValType) (t : Option ValType) (w : ℕ → Bool) (c : Code) → nest (unmarked (cut_body cs K P T t (marked w 0 c))) ≤ nest c
 cut_nests_no_deeper cs K P T t w c =

@@ -11,6 +11,7 @@ use Rattle.wasm_types.specs.Marked.{marked, unmarked}
 use Rattle.wasm_types.specs.Actions.{Callees}
 use Rattle.wasm_types.specs.declared.place.Node.{Node}
 use Rattle.wasm_types.specs.Nodes.{At, Join, every}
+use Rattle.wasm_types.specs.declared.place.Node.TheVariants as node
 use Rattle.wasm_types.specs.declared.place.Node.TheVariants.{Exit}
 use Rattle.wasm_types.specs.Sites.{DoHead, UnreachableHead, Head, Site, Sites, IsSite, EndAt, body_sites, body_ends, all_operands, Among}
 use Rattle.flow_domain.specs.Presence.{AmongFirst, maker, result, operand, left, at_exit, HoldsNeeded}
@@ -21,15 +22,15 @@ unfoldable code : Code
 code = one (LocalGet 0) (one (LocalGet 0) (one (Num (num.Bin W32 bin.Add)) (one (LocalGet 0) (branch (Some I32) (one (I32Const 1) done) (one (I32Const 2) done) (one (Num (num.Bin W32 bin.Add)) (one (LocalGet 1) (one (Num (num.Bin W32 bin.Add)) done)))))))
 
 abbrev kept : Node → Bool
-kept (At p) = nat_eq p 8
-kept (Join b) = false
-kept Exit = false
+kept (node.At p) = nat_eq p.0 8
+kept (node.Join b) = false
+kept node.Exit = false
 
 -- the kept one's place, and the one at the end
 abbrev needed : Node → Bool
-needed (At p) = nat_eq p 8 || nat_eq p 9
-needed (Join b) = nat_eq b 8
-needed Exit = false
+needed (node.At p) = nat_eq p.0 8 || nat_eq p.0 9
+needed (node.Join b) = nat_eq b.0 8
+needed node.Exit = false
 
 abbrev types : Node → ValType
 types n = I32
@@ -52,14 +53,14 @@ unfoldable jump : Code
 jump = block (Some I64) (one (I32Const 1) (one (I64Const 2) (one (Br 0) (one Drop (one Drop done))))) (one (I64Const 3) (one Return done))
 
 abbrev block_kept : Node → Bool
-block_kept (At p) = nat_eq p 0
-block_kept (Join b) = false
-block_kept Exit = false
+block_kept (node.At p) = nat_eq p.0 0
+block_kept (node.Join b) = false
+block_kept node.Exit = false
 
 abbrev jump_types : Node → ValType
-jump_types (At p) = if nat_eq p 1 then I32 else I64
-jump_types (Join b) = I64
-jump_types Exit = I64
+jump_types (node.At p) = if nat_eq p.0 1 then I32 else I64
+jump_types (node.Join b) = I64
+jump_types node.Exit = I64
 
 fallen : unmarked (cut_body no_calls block_kept every jump_types (Some I64) (marked (nat_eq 0) 0 jump))
     ≡ block (Some I64) (one (I32Const 0) (one (I64Const 0) (one Drop (one Drop (one (I64Const 0) done))))) (one (I64Const 0) (one Drop (one Drop (one (I64Const 0) done))))
@@ -83,8 +84,13 @@ head_there : (p : ℕ) (s : Site) → IsSite the_sites p s → nat_eq p 8 ≡ tr
 unfolding code
 head_there p s is on = ap head_of (sym is ∙ ap (slice_get the_sites) (eqb-true p 8 on))
 
+abbrev number_of : Node → ℕ
+number_of (node.At p) = p.0
+number_of (node.Join b) = b.0
+number_of node.Exit = 0
+
 join_is : (b d : ℕ) → Join b ≡ Join d → b ≡ d
-join_is b d e = cc
+join_is b d e = ap number_of e
 
 no_exit : {A : Type 0} (b : ℕ) → Exit ≡ Join b → A
 no_exit b e = absurd cc
@@ -112,9 +118,9 @@ exit_name e n (inr (inr (inl q))) o a = no_exit 4 (sym (ap (λ z. z.owner) q ∙
 exit_name e n (inr (inr (inr h))) o a = absurd h
 
 kept_needed : (n : Node) → kept n ≡ true → needed n ≡ true
-kept_needed (At p) e = ap (λ b. b || nat_eq p 9) e
-kept_needed (Join b) e = absurd (true≢false (sym e))
-kept_needed Exit e = absurd (true≢false (sym e))
+kept_needed (node.At p) e = ap (λ b. b || nat_eq p.0 9) e
+kept_needed (node.Join b) e = absurd (true≢false (sym e))
+kept_needed node.Exit e = absurd (true≢false (sym e))
 
 none_first : (names : List Node) (n : Node) → AmongFirst 0 names n → needed n ≡ true
 none_first names n (k, lt, at) = absurd (omega arith)

@@ -14,31 +14,12 @@ use Rattle.wasm_types.specs.declared.place.Node.{Node}
 use Rattle.wasm_types.specs.Nodes.{At, Join, named, made, AllIn, every}
 use Rattle.wasm_types.specs.declared.place.Node.TheVariants.{Exit}
 use Rattle.wasm_types.specs.Sites.{OneOf, Site, Sites, IsSite, EndAt, all_operands, Among}
+use Rattle.flow_domain.specs.Heights.{HasLabel, Shaped}
 use Rattle.flow_domain.specs.Presence.{maker, result, operand, left, at_exit, HoldsNeeded}
 use Rattle.stack_repair.proofs.Typed.{Typed}
 use Rattle.stack_repair.proofs.CutTyping.{arity-values}
 use Rattle.stack_repair.proofs.Positions.{all_first}
 use Rattle.stack_repair.proofs.Needed.{carries_long, test_long}
-
-abbrev pub HasLabel : List ℕ → ℕ → Type 0
-HasLabel [] l = ⊥
-HasLabel (t ∷ ls) zero = Unit {0}
-HasLabel (t ∷ ls) (suc l) = HasLabel ls l
-
--- With n values on its stack the sequence ends with t, of the labels around it, and W holds of each instruction that goes on to the next one.
-abbrev pub Shaped : Callees → (Instr → Type 0) → List ℕ → ℕ → Marked → ℕ → Type 0
-Shaped cs W ls t End n = n ≡ t
-Shaped cs W ls t (Do m op rest) n = (takes cs op ≤ n) × W op × (leaves cs op ≤ 1) × Shaped cs W ls t rest (leaves cs op + (n - takes cs op))
-Shaped cs W ls t (Block m kind body rest) n = Shaped cs W (arity kind ∷ ls) (arity kind) body 0 × Shaped cs W ls t rest (arity kind + n)
-Shaped cs W ls t (Loop m kind body rest) n = Shaped cs W (0 ∷ ls) (arity kind) body 0 × Shaped cs W ls t rest (arity kind + n)
-Shaped cs W ls t (If m kind x y rest) n =
-    (1 ≤ n) × Shaped cs W (arity kind ∷ ls) (arity kind) x 0 × Shaped cs W (arity kind ∷ ls) (arity kind) y 0 × Shaped cs W ls t rest (arity kind + (n - 1))
-Shaped cs W ls t (Br m l rest) n = HasLabel ls l × (carried ls l ≤ n)
-Shaped cs W ls t (BrIf m l rest) n = HasLabel ls l × (carried ls l + 1 ≤ n) × Shaped cs W ls t rest (n - 1)
-Shaped cs W ls t (BrTable m labels other rest) n =
-    (1 ≤ n) × ((l : ℕ) → OneOf labels other l → HasLabel ls l × (carried ls l + 1 ≤ n) × (carried ls l ≡ carried ls other))
-Shaped cs W ls t (Return m rest) n = HasLabel ls (outermost ls) × (carried ls (outermost ls) ≤ n)
-Shaped cs W ls t (Unreachable m rest) n = Unit {0}
 
 -- the labels' numbers of values
 pub record Numbered (ls : List ℕ) (Ls : List (List ValType)) (res : List ValType) : Type 0 where
@@ -112,6 +93,20 @@ module _ (c : Context) (T : Node → ValType) (W : Instr → Type 0) (typed : (o
       (omega arith, λ l one. let a = lab.at l s (one_of Ls s labels other l at each one) in let b = a.1 in (a.0, omega arith, omega arith))
   shaped_of ls Ls t (Return m rest) p n names e lab ty = let a = lab.last.1 in let d = carries_long T c.result names ty in (lab.last.0, omega arith)
   shaped_of ls Ls t (Unreachable m rest) p n names e lab ty = tt
+
+-- what follows from W holds, too
+pub shaped_weaker : (cs : Callees) (W V : Instr → Type 0) → ((op : Instr) → W op → V op) → (ls : List ℕ) (t : ℕ) (code : Marked) (n : ℕ) → Shaped cs W ls t code n → Shaped cs V ls t code n
+shaped_weaker cs W V f ls t End n h = h
+shaped_weaker cs W V f ls t (Do m op rest) n h = (h.0, f op h.1, h.2, shaped_weaker cs W V f ls t rest _ h.3)
+shaped_weaker cs W V f ls t (Block m kind body rest) n h = (shaped_weaker cs W V f (arity kind ∷ ls) (arity kind) body 0 h.0, shaped_weaker cs W V f ls t rest _ h.1)
+shaped_weaker cs W V f ls t (Loop m kind body rest) n h = (shaped_weaker cs W V f (0 ∷ ls) (arity kind) body 0 h.0, shaped_weaker cs W V f ls t rest _ h.1)
+shaped_weaker cs W V f ls t (If m kind x y rest) n h =
+    (h.0, shaped_weaker cs W V f (arity kind ∷ ls) (arity kind) x 0 h.1, shaped_weaker cs W V f (arity kind ∷ ls) (arity kind) y 0 h.2, shaped_weaker cs W V f ls t rest _ h.3)
+shaped_weaker cs W V f ls t (Br m l rest) n h = h
+shaped_weaker cs W V f ls t (BrIf m l rest) n h = (h.0, h.1, shaped_weaker cs W V f ls t rest _ h.2)
+shaped_weaker cs W V f ls t (BrTable m labels other rest) n h = h
+shaped_weaker cs W V f ls t (Return m rest) n h = h
+shaped_weaker cs W V f ls t (Unreachable m rest) n h = h
 
 -- ---- the places that a cut shows, as the simulation asks for them
 

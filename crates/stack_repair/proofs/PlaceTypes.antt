@@ -10,14 +10,15 @@ use Rattle.wasm_types.specs.declared.instr.Instr.{Instr}
 use Rattle.wasm_types.specs.declared.instr.Instr as instr
 use Rattle.wasm_types.specs.Marked.{Marked, End, Do, Block, Loop, If, Br, BrIf, BrTable, Return, Unreachable, size}
 use Rattle.wasm_types.specs.Spaces.{type_of_func, globals_of}
-use Rattle.wasm_types.specs.Typing.{Context, Types, TypesNum, type_of_width, load_type}
+use Rattle.wasm_types.specs.Typing.{Context, Types, TypesNum, type_of_width, low_type, load_type}
 use Rattle.wasm_types.specs.Actions.{callees, takes, leaves}
 use Rattle.wasm_types.specs.Labels.{arity}
 use Rattle.wasm_types.specs.declared.place.Node.{Node}
 use Rattle.wasm_types.specs.Nodes.{At, Join, named, made}
-use Rattle.wasm_types.specs.declared.place.Node.TheVariants.{Exit}
+use Rattle.wasm_types.specs.declared.place.Node.TheVariants as node
 use Rattle.flow_domain.specs.Cut.{pick, shown, drops, filler, result_of, cut}
-use Rattle.stack_repair.proofs.Live.{HasResultType, HasKind, TypesLive}
+use Rattle.stack_repair.proofs.Live.{HasResultType, HasKind, TypesLive, places_of}
+use Rattle.stack_repair.specs.Law.{PlacesHaveTypes}
 use Rattle.stack_repair.proofs.Typed.{Typed}
 
 -- ---- the type of what an instruction leaves on operands
@@ -43,6 +44,7 @@ num_left (num.Un w op) = type_of_width w
 num_left (num.Bin w op) = type_of_width w
 num_left num.ExtendS = I64
 num_left num.ExtendU = I64
+num_left (num.Low op) = low_type op
 num_left _ = I32
 
 abbrev left_type : Context → Instr → List ValType → ValType
@@ -71,6 +73,7 @@ num_left_is (num.Bin w op) t k h = top_is k _ h.1
 num_left_is num.Wrap t k h = top_is k _ h.1
 num_left_is num.ExtendS t k h = top_is k _ h.1
 num_left_is num.ExtendU t k h = top_is k _ h.1
+num_left_is (num.Low op) t k h = top_is k _ h.1
 
 left_is : (c : Context) (op : Instr) (t : List ValType) (k : ValType) → Types c op t (k ∷ []) → left_type c op t ≡ k
 left_is c instr.Nop t k h = none_left k h.1
@@ -90,20 +93,22 @@ left_is c instr.MemoryGrow t k (some, h) = top_is k _ h.1
 left_is c (instr.I32Const n) t k h = top_is k _ h.1
 left_is c (instr.I64Const n) t k h = top_is k _ h.1
 left_is c (instr.Num op) t k h = num_left_is op t k h
+left_is c instr.MemoryCopy t k (some, h) = none_left k h.1
+left_is c instr.MemoryFill t k (some, h) = none_left k h.1
 left_is c _ t k h = absurd h
 
 -- ---- one table after another
 
 abbrev set_at : ℕ → ValType → (Node → ValType) → Node → ValType
-set_at p k T (At q) = if nat_eq q p then k else T (At q)
-set_at p k T (Join b) = T (Join b)
-set_at p k T Exit = T Exit
+set_at p k T (node.At q) = if nat_eq q.0 p then k else T (node.At q)
+set_at p k T (node.Join b) = T (node.Join b)
+set_at p k T node.Exit = T node.Exit
 
 abbrev set_join : ℕ → Option ValType → (Node → ValType) → Node → ValType
 set_join p None T n = T n
-set_join p (Some k) T (At q) = T (At q)
-set_join p (Some k) T (Join b) = if nat_eq b p then k else T (Join b)
-set_join p (Some k) T Exit = T Exit
+set_join p (Some k) T (node.At q) = T (node.At q)
+set_join p (Some k) T (node.Join b) = if nat_eq b.0 p then k else T (node.Join b)
+set_join p (Some k) T node.Exit = T node.Exit
 
 -- the types of the places of the code, and for other nodes those of T
 abbrev types_from : Context → Marked → ℕ → List Node → (Node → ValType) → Node → ValType
@@ -117,14 +122,14 @@ types_from c (BrIf m l rest) p names T = types_from c rest (p + 1) (drop 1 names
 types_from c _ p names T = T
 
 abbrev IsBefore : ℕ → Node → Type 0
-IsBefore e (At q) = q < e
-IsBefore e (Join b) = b < e
-IsBefore e Exit = ⊥
+IsBefore e (node.At q) = q.0 < e
+IsBefore e (node.Join b) = b.0 < e
+IsBefore e node.Exit = ⊥
 
 before_le : (a b : ℕ) (n : Node) → a ≤ b → IsBefore a n → IsBefore b n
-before_le a b (At q) le h = omega arith
-before_le a b (Join q) le h = omega arith
-before_le a b Exit le h = h
+before_le a b (node.At q) le h = omega arith
+before_le a b (node.Join q) le h = omega arith
+before_le a b node.Exit le h = h
 
 abbrev AllBefore : ℕ → List Node → Type 0
 AllBefore e [] = Unit {0}
@@ -147,15 +152,15 @@ other_number : (a b : ℕ) → a < b → nat_eq a b ≡ false
 other_number a b lt = grind arith
 
 set_at_same : (p : ℕ) (k : ValType) (T : Node → ValType) (n : Node) → IsBefore p n → set_at p k T n ≡ T n
-set_at_same p k T (At q) b = ap (λ z. if z then k else T (At q)) (other_number q p b)
-set_at_same p k T (Join q) b = refl
-set_at_same p k T Exit b = refl
+set_at_same p k T (node.At q) b = ap (λ z. if z then k else T (node.At q)) (other_number q.0 p b)
+set_at_same p k T (node.Join q) b = refl
+set_at_same p k T node.Exit b = refl
 
 set_join_same : (p : ℕ) (kind : Option ValType) (T : Node → ValType) (n : Node) → IsBefore p n → set_join p kind T n ≡ T n
 set_join_same p None T n b = refl
-set_join_same p (Some k) T (At q) b = refl
-set_join_same p (Some k) T (Join q) b = ap (λ z. if z then k else T (Join q)) (other_number q p b)
-set_join_same p (Some k) T Exit b = refl
+set_join_same p (Some k) T (node.At q) b = refl
+set_join_same p (Some k) T (node.Join q) b = ap (λ z. if z then k else T (node.Join q)) (other_number q.0 p b)
+set_join_same p (Some k) T node.Exit b = refl
 
 set_at_there : (p : ℕ) (k : ValType) (T : Node → ValType) → set_at p k T (At p) ≡ k
 set_at_there p k T = ap (λ z. if z then k else T (At p)) (eq-eqb p p refl)
@@ -237,8 +242,11 @@ typed_from c (BrTable m labels other rest) p e names T T' q b h = tt
 typed_from c (Return m rest) p e names T T' q b h = tt
 typed_from c (Unreachable m rest) p e names T T' q b h = tt
 
-pub places_have_types : (c : Context) (code : Marked) → (T : Node → ValType) × TypesLive c T code 0 []
-places_have_types c code = let T = types_from c code 0 [] (λ n. I32) in (T, typed_from c code 0 (0 + size code) [] (λ n. I32) T refl tt (λ n b. refl))
+pub types_exist : (c : Context) (code : Marked) → (T : Node → ValType) × TypesLive c T code 0 []
+types_exist c code = let T = types_from c code 0 [] (λ n. I32) in (T, typed_from c code 0 (0 + size code) [] (λ n. I32) T refl tt (λ n b. refl))
+
+pub places_have_types : PlacesHaveTypes
+places_have_types c n code = let h = types_exist c code in (h.0, places_of c h.0 n code h.1)
 
 -- ---- one cut
 

@@ -15,7 +15,7 @@ use Rattle.wasm_types.specs.Labels.{arity}
 use Rattle.wasm_types.specs.declared.place.Node.{Node}
 use Rattle.wasm_types.specs.Nodes.{At, Join, named, made}
 use Rattle.stack_repair.proofs.Live.{HasResultType, HasKind, TypesLive}
-use Rattle.wasm_types.proofs.Shapes.{Integers, IsInteger_context, shape, GoesOn, TypedPass, passed}
+use Rattle.wasm_types.proofs.Shapes.{Integers, IsIntegerContext, shape, GoesOn, TypedPass, passed}
 
 -- the first names have these types
 abbrev pub Carries : (Node → ValType) → List ValType → List Node → Type 0
@@ -146,7 +146,7 @@ pub record DoStep (c : Context) (T : Node → ValType) (op : Instr) (p : ℕ) (n
   pub after : map T (made (callees c.inside) p op names) ≡ s'
   pub integer : Integers (map T (made (callees c.inside) p op names))
 
-do_step : (c : Context) → IsInteger_context c → (T : Node → ValType) (op : Instr) (p : ℕ) (names : List Node) (s s' : List ValType)
+do_step : (c : Context) → IsIntegerContext c → (T : Node → ValType) (op : Instr) (p : ℕ) (names : List Node) (s s' : List ValType)
     → map T names ≡ s → Integers (map T names) → HasResultType c T op (take (takes (callees c.inside) op) names) (At p) → TypedPass c op s s' → DoStep c T op p names s'
 do_step c ok T op p names s s' e i h (t, l, r, ty, f, g) =
     let sh = shape c ok op t l ty in
@@ -162,7 +162,7 @@ do_step c ok T op p names s s' e i h (t, l, r, ty, f, g) =
 
 -- ---- a sequence
 
-pub typed_of : (c : Context) → IsInteger_context c → (T : Node → ValType) (ls : List (List ValType)) (t : Option ValType) (code : Marked) (p : ℕ) (names : List Node) (s : List ValType)
+pub typed_of : (c : Context) → IsIntegerContext c → (T : Node → ValType) (ls : List (List ValType)) (t : Option ValType) (code : Marked) (p : ℕ) (names : List Node) (s : List ValType)
     → ByKind code → IsIntegerCode (unmarked code) → Integers (map T names) → map T names ≡ s → Leads c ls (unmarked code) s (values_of t) → TypesLive c T code p names → Typed c T ls t code p names
 typed_of c ok T ls t End p names s k ic i e h ty = e ∙ h
 typed_of c ok T ls t (Do m op rest) p names s k ic i e (mid, q, h) ty =
