@@ -1,5 +1,5 @@
 -- A module with the cut of a body as one function more.
-use Rattle.std.proofs.Common.{◌≡◌, ℕ, zero, suc, ◌+◌, ◌-◌, ◌*◌, ◌≤◌, ◌<◌, ◌^◌, List, [], ◌∷◌, ◌++◌, Bool, Option, Some, None, length, slice_get, refl, sym, ap, ◌∙◌, subst, arith, IfSome, ◌⊎◌, inl, inr, length-append, append_assoc}
+use Rattle.std.proofs.Common.{◌≡◌, ℕ, zero, suc, ◌+◌, ◌-◌, ◌*◌, ◌≤◌, ◌<◌, ◌^◌, List, [], ◌∷◌, ◌++◌, Option, Some, None, length, slice_get, refl, sym, ap, ◌∙◌, subst, arith, IfSome, ◌⊎◌, inl, inr, length-append, append_assoc}
 use Rattle.std.proofs.lemmas.List.Elements.{All-push, All-weaker}
 use Rattle.std.proofs.lemmas.Option.{slice_get_within}
 use Rattle.wasm_types.specs.declared.module.ValType.{ValType}
@@ -27,19 +27,17 @@ use Rattle.wasm_types.specs.WellFormed.{IsU32, ProperName, ProperExport, ProperB
 use Rattle.wasm_types.specs.Spaces.{import_count, func_types, imported, func_import, type_numbered, type_of_func, local_types, HasBody, IsOwnFunc}
 use Rattle.wasm_types.specs.Typing.{Context, Types}
 use Rattle.wasm_types.specs.Validity.{values_of, Passes, Leads, ImportHolds, count_of_kind, ExportHolds, ElemHolds, IsValidBody, Holds, IsValid}
-use Rattle.wasm_types.specs.Subset.{IsIntegerBody, IsIntegerCode, HasNoFloat, InSubset, most_read, most_answered, WithinLimits, NestsAtMost, most_nesting, IsSealed}
+use Rattle.wasm_types.specs.Subset.{IsIntegerBody, IsIntegerCode, HasNoFloat, InSubset, most_read, most_answered, WithinLimits, NestsAtMost, most_nesting}
 use Rattle.wasm_types.proofs.CodeLemmas.{length-flatten}
 use Rattle.wasm_types.specs.Actions.{callees}
-use Rattle.wasm_types.specs.declared.place.Node.{Node}
 use Rattle.flow_domain.specs.Cut.{cut_body}
-use Rattle.flow_domain.specs.Sliced.{func_count, appended, context_of, result_type, watched_code}
+use Rattle.flow_domain.specs.Sliced.{func_count, appended, result_type, watched_code}
 use Rattle.stack_repair.specs.Law.{HasExport, with_cut, HasTypedBody, HasCut, BodyIsShort, SliceIsValid, SliceIsShort, SliceIsSpelled, SliceIsSealed}
 use Rattle.stack_repair.proofs.Counting.{unmarked-marked, cut_is_short, cut_nests_no_deeper}
 use Rattle.stack_repair.proofs.Every.{cut_integer, cut_proper}
 use Rattle.stack_repair.proofs.Bodies.{at_of, cut_back, cut_is_valid}
 use Rattle.stack_repair.proofs.Bytes.{cut_is_small, appended_size}
 use Rattle.wasm_types.specs.Canon.{canon_code, canon}
-use Rattle.wasm_types.specs.Modules.{Spells}
 use Rattle.wasm_types.proofs.CanonModule.{canon_spelled}
 use Rattle.wasm_types.proofs.SizeLemmas.{has_at_most}
 use Rattle.wasm_types.proofs.ModuleLemmas.{one_module}

@@ -19,7 +19,7 @@ use Rattle.wasm_types.specs.Code.{Code, code_of, list_of}
 use Rattle.wasm_types.specs.Marked.{Marked, marked, unmarked, size}
 use Rattle.wasm_types.specs.Spaces.{type_of_func, func_types, imported, global_import, global_kind, run_types, local_types, HasBody}
 use Rattle.wasm_types.specs.Typing.{Context}
-use Rattle.wasm_types.specs.Validity.{values_of, Leads, IsValidBody, IsValid}
+use Rattle.wasm_types.specs.Validity.{values_of, Leads, IsValid}
 use Rattle.wasm_types.specs.Subset.{IsInteger, IsIntegerKind, IsIntegerCode, IsIntegerFunc, IsIntegerImport, HasNoFloat}
 use Rattle.wasm_types.specs.Actions.{callees}
 use Rattle.wasm_types.specs.Labels.{arity, body_label}

@@ -47,27 +47,44 @@ module _ (Q : Instr → Type 0) (R : Option ValType → Type 0) (q_drop : Q Drop
   filler_every P None n c h = h
   filler_every P (Some t) n c h = pick_every (P n) (Do false (zero_const t) c) c (zero_every t, h) h
 
+  falls_every : (P : Node → Bool) (t : Option ValType) (b : Bool) (x : Marked) (names : List Node) → Marks x → Marks (pick b x (drops (shown P names) (zeros t End)))
+  falls_every P t b x names h = pick_every b x (drops (shown P names) (zeros t End)) h (drops_every (shown P names) (zeros t End) (zeros_every t))
+
   pub cut_every : (cs : Callees) (K P : Node → Bool) (T : Node → ValType) (t : Option ValType) (c : Marked) (p : ℕ) (names : List Node) → Marks c → Marks (cut cs K P T t c p names)
   cut_every cs K P T t End p names h = tt
   cut_every cs K P T t (Do m op rest) p names h =
+      let d = cut cs K P T t rest (p + 1) (made cs p op names) in
+      let filled = filler P (result_of (leaves cs op) (T (At p))) (At p) d in
+      let n = shown P (take (takes cs op) names) in
       let g = cut_every cs K P T t rest (p + 1) (made cs p op names) h.1 in
-      pick_every (K (At p)) _ _ (h.0, g) (drops_every (shown P (take (takes cs op) names)) _ (filler_every P (result_of (leaves cs op) (T (At p))) (At p) _ g))
+      pick_every (K (At p)) (Do m op d) (drops n filled) (h.0, g) (drops_every n filled (filler_every P (result_of (leaves cs op) (T (At p))) (At p) d g))
   cut_every cs K P T t (Block m kind body rest) p names h =
+      let inner = cut cs K P T kind body (p + 1) [] in
+      let d = cut cs K P T t rest (p + 1 + size body) (named (arity kind) (Join p) names) in
       let g = cut_every cs K P T t rest (p + 1 + size body) (named (arity kind) (Join p) names) h.2 in
-      pick_every (K (At p)) _ _ (h.0, cut_every cs K P T kind body (p + 1) [] h.1, g) (filler_every P kind (Join p) _ g)
+      pick_every (K (At p)) (Block m kind inner d) (filler P kind (Join p) d) (h.0, cut_every cs K P T kind body (p + 1) [] h.1, g) (filler_every P kind (Join p) d g)
   cut_every cs K P T t (Loop m kind body rest) p names h =
+      let inner = cut cs K P T kind body (p + 1) [] in
+      let d = cut cs K P T t rest (p + 1 + size body) (named (arity kind) (Join p) names) in
       let g = cut_every cs K P T t rest (p + 1 + size body) (named (arity kind) (Join p) names) h.2 in
-      pick_every (K (At p)) _ _ (h.0, cut_every cs K P T kind body (p + 1) [] h.1, g) (filler_every P kind (Join p) _ g)
+      pick_every (K (At p)) (Loop m kind inner d) (filler P kind (Join p) d) (h.0, cut_every cs K P T kind body (p + 1) [] h.1, g) (filler_every P kind (Join p) d g)
   cut_every cs K P T t (If m kind x y rest) p names h =
+      let in_x = cut cs K P T kind x (p + 1) [] in
+      let in_y = cut cs K P T kind y (p + 1 + size x) [] in
+      let d = cut cs K P T t rest (p + 1 + size x + size y) (named (arity kind) (Join p) (drop 1 names)) in
+      let n = shown P (take 1 names) in
       let g = cut_every cs K P T t rest (p + 1 + size x + size y) (named (arity kind) (Join p) (drop 1 names)) h.3 in
-      pick_every (K (At p)) _ _ (h.0, cut_every cs K P T kind x (p + 1) [] h.1, cut_every cs K P T kind y (p + 1 + size x) [] h.2, g) (drops_every (shown P (take 1 names)) _ (filler_every P kind (Join p) _ g))
-  cut_every cs K P T t (Br m l rest) p names h = pick_every (K (At p)) _ _ (h.0, tt) (drops_every (shown P names) _ (zeros_every t))
+      pick_every (K (At p)) (If m kind in_x in_y d) (drops n (filler P kind (Join p) d)) (h.0, cut_every cs K P T kind x (p + 1) [] h.1, cut_every cs K P T kind y (p + 1 + size x) [] h.2, g)
+      (drops_every n (filler P kind (Join p) d) (filler_every P kind (Join p) d g))
+  cut_every cs K P T t (Br m l rest) p names h = falls_every P t (K (At p)) (Br m l End) names (h.0, tt)
   cut_every cs K P T t (BrIf m l rest) p names h =
+      let d = cut cs K P T t rest (p + 1) (drop 1 names) in
+      let n = shown P (take 1 names) in
       let g = cut_every cs K P T t rest (p + 1) (drop 1 names) h.1 in
-      pick_every (K (At p)) _ _ (h.0, g) (drops_every (shown P (take 1 names)) _ g)
-  cut_every cs K P T t (BrTable m labels other rest) p names h = pick_every (K (At p)) _ _ (h.0, tt) (drops_every (shown P names) _ (zeros_every t))
-  cut_every cs K P T t (Return m rest) p names h = pick_every (K (At p)) _ _ (h.0, tt) (drops_every (shown P names) _ (zeros_every t))
-  cut_every cs K P T t (Unreachable m rest) p names h = pick_every (K (At p)) _ _ (h.0, tt) (drops_every (shown P names) _ (zeros_every t))
+      pick_every (K (At p)) (BrIf m l d) (drops n d) (h.0, g) (drops_every n d g)
+  cut_every cs K P T t (BrTable m labels other rest) p names h = falls_every P t (K (At p)) (BrTable m labels other End) names (h.0, tt)
+  cut_every cs K P T t (Return m rest) p names h = falls_every P t (K (At p)) (Return m End) names (h.0, tt)
+  cut_every cs K P T t (Unreachable m rest) p names h = falls_every P t (K (At p)) (Unreachable m End) names (h.0, tt)
 
 -- ---- integer code
 
@@ -93,17 +110,17 @@ cut_integer cs K P T t c p names h = integer_every _ (cut_every IsIntegerInstr I
 abbrev Proper : Instr → Type 0
 Proper i = ProperImmediates (immediates i)
 
-abbrev Any_kind : Option ValType → Type 0
-Any_kind kind = Unit {0}
+abbrev AnyKind : Option ValType → Type 0
+AnyKind kind = Unit {0}
 
-every_proper : (c : Code) → ProperCode c → Every Proper Any_kind c
+every_proper : (c : Code) → ProperCode c → Every Proper AnyKind c
 every_proper done h = tt
 every_proper (one i rest) h = (h.0, every_proper rest h.1)
 every_proper (block kind inner rest) h = (tt, every_proper inner h.0, every_proper rest h.1)
 every_proper (repeat kind inner rest) h = (tt, every_proper inner h.0, every_proper rest h.1)
 every_proper (branch kind x y rest) h = (tt, every_proper x h.0, every_proper y h.1, every_proper rest h.2)
 
-proper_every : (c : Code) → Every Proper Any_kind c → ProperCode c
+proper_every : (c : Code) → Every Proper AnyKind c → ProperCode c
 proper_every done h = tt
 proper_every (one i rest) h = (h.0, proper_every rest h.1)
 proper_every (block kind inner rest) h = (proper_every inner h.1, proper_every rest h.2)
@@ -111,4 +128,4 @@ proper_every (repeat kind inner rest) h = (proper_every inner h.1, proper_every 
 proper_every (branch kind x y rest) h = (proper_every x h.1, proper_every y h.2, proper_every rest h.3)
 
 pub cut_proper : (cs : Callees) (K P : Node → Bool) (T : Node → ValType) (t : Option ValType) (c : Marked) (p : ℕ) (names : List Node) → ProperCode (unmarked c) → ProperCode (unmarked (cut cs K P T t c p names))
-cut_proper cs K P T t c p names h = proper_every _ (cut_every Proper Any_kind tt (omega arith) (omega arith) cs K P T t c p names (every_proper (unmarked c) h))
+cut_proper cs K P T t c p names h = proper_every _ (cut_every Proper AnyKind tt (omega arith) (omega arith) cs K P T t c p names (every_proper (unmarked c) h))

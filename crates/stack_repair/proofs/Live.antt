@@ -6,10 +6,10 @@ use Rattle.wasm_types.specs.declared.place.Node.TheVariants.{Exit}
 use Rattle.wasm_types.specs.declared.instr.Instr.{Instr}
 use Rattle.wasm_types.specs.Marked.{Marked, End, Do, Block, Loop, If, Br, BrIf, BrTable, Return, Unreachable, size}
 use Rattle.wasm_types.specs.Typing.{Context, Types}
-use Rattle.wasm_types.specs.Actions.{Callees, callees, takes}
+use Rattle.wasm_types.specs.Actions.{callees, takes}
 use Rattle.wasm_types.specs.Nodes.{At, Join, named, made}
 use Rattle.wasm_types.specs.Labels.{arity, Label, block_label, loop_label, body_label}
-use Rattle.wasm_types.specs.Sites.{Head, DoHead, BlockHead, LoopHead, IfHead, Site, Sites, IsSite, sites, body_sites}
+use Rattle.wasm_types.specs.Sites.{DoHead, Site, Sites, IsSite, sites, body_sites}
 use Rattle.wasm_types.specs.Places.{HasResult, TypesPlaces}
 use Rattle.stack_repair.proofs.Positions.{HasAt, has_front, has_back, length-sites}
 
@@ -129,7 +129,7 @@ module _ (c : Context) (T : Node → ValType) where
       let L = block_label p (arity kind) e in (
         record { left = λ o v f h. absurd cc; result = λ v f. kind_there kind (Join p) v ty.0 f },
         each_append (sites cs (L ∷ ctx) (Join p) body (p + 1) []) (sites cs ctx k rest e (named (arity kind) (Join p) names)) (p + 1) e (omega (arith, length-sites cs body (L ∷ ctx) (Join p) (p + 1) []))
-        (each_live body (L ∷ ctx) (Join p) (p + 1) [] ty.1) (each_live rest ctx k e (named (arity kind) (Join p) names) ty.2),
+            (each_live body (L ∷ ctx) (Join p) (p + 1) [] ty.1) (each_live rest ctx k e (named (arity kind) (Join p) names) ty.2),
       )
   each_live (Loop m kind body rest) ctx k p names ty =
       let cs = callees c.inside in
@@ -137,7 +137,7 @@ module _ (c : Context) (T : Node → ValType) where
       let L = loop_label p e in (
         record { left = λ o v f h. absurd cc; result = λ v f. kind_there kind (Join p) v ty.0 f },
         each_append (sites cs (L ∷ ctx) (Join p) body (p + 1) []) (sites cs ctx k rest e (named (arity kind) (Join p) names)) (p + 1) e (omega (arith, length-sites cs body (L ∷ ctx) (Join p) (p + 1) []))
-        (each_live body (L ∷ ctx) (Join p) (p + 1) [] ty.1) (each_live rest ctx k e (named (arity kind) (Join p) names) ty.2),
+            (each_live body (L ∷ ctx) (Join p) (p + 1) [] ty.1) (each_live rest ctx k e (named (arity kind) (Join p) names) ty.2),
       )
   each_live (If m kind x y rest) ctx k p names ty =
       let cs = callees c.inside in
@@ -149,7 +149,7 @@ module _ (c : Context) (T : Node → ValType) where
       let rs = sites cs ctx k rest e (named (arity kind) (Join p) (drop 1 names)) in (
         record { left = λ o v f h. absurd cc; result = λ v f. kind_there kind (Join p) v ty.0 f },
         each_append xs (ys ++ rs) (p + 1) f (omega (arith, length-sites cs x (L ∷ ctx) (Join p) (p + 1) [])) (each_live x (L ∷ ctx) (Join p) (p + 1) [] ty.1)
-        (each_append ys rs f e (omega (arith, length-sites cs y (L ∷ ctx) (Join p) f [])) (each_live y (L ∷ ctx) (Join p) f [] ty.2) (each_live rest ctx k e (named (arity kind) (Join p) (drop 1 names)) ty.3)),
+            (each_append ys rs f e (omega (arith, length-sites cs y (L ∷ ctx) (Join p) f [])) (each_live y (L ∷ ctx) (Join p) f [] ty.2) (each_live rest ctx k e (named (arity kind) (Join p) (drop 1 names)) ty.3)),
       )
   each_live (Br m l rest) ctx k p names ty = (record { left = λ o v f h. absurd cc; result = λ v h. absurd h }, each_nones (size rest) (p + 1))
   each_live (BrIf m l rest) ctx k p names ty = (record { left = λ o v f h. absurd cc; result = λ v h. absurd h }, each_live rest ctx k (p + 1) (drop 1 names) ty)

@@ -1,5 +1,5 @@
 -- What the laws ask for, of a sliced module and of an own function.
-use Rattle.std.proofs.Common.{◌≡◌, ℕ, nat_eq}
+use Rattle.std.proofs.Common.{ℕ, nat_eq}
 use Rattle.wasm_types.specs.declared.module.Name.{Name}
 use Rattle.wasm_types.specs.declared.module.Module.{Module}
 use Rattle.wasm_types.specs.WellFormed.{ProperName}

@@ -128,7 +128,7 @@ abbrev pub BodyIsShort : Type 0
 BodyIsShort =
     (m : Module) (name : Name) (new : Module) → IsValid m → InSubset m → (h : HasCut m name new)
     → let cut = with_cut (callees m) h.kept h.present h.types h.watched h.kind h.body in
-      (positions cut.code ≤ 2 * positions h.body.code) × (nest (code_of cut.code) ≤ nest (code_of h.body.code))
+    (positions cut.code ≤ 2 * positions h.body.code) × (nest (code_of cut.code) ≤ nest (code_of h.body.code))
 
 -- its canonical spelling has at most so many bytes
 abbrev pub SliceIsShort : Type 0

@@ -3,4 +3,7 @@
 
 mod laws;
 
-pub use laws::{law_cut_is_one, law_cut_is_small, law_cut_is_valid, law_places_have_types, law_slice_is_sealed, law_valid_has_heights};
+pub use laws::{
+    law_cut_is_one, law_cut_is_small, law_cut_is_valid, law_places_have_types, law_slice_is_sealed,
+    law_valid_has_heights,
+};
