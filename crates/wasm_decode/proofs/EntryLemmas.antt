@@ -1,6 +1,6 @@
 -- The entries of a vector, one after another.
-use Rattle.std.proofs.Common.{◌≡◌, ℕ, zero, suc, ◌+◌, ◌-◌, ◌<◌, List, [], ◌∷◌, ◌++◌, length, Option, Some, None, Err, refl, sym, subst, ◌∙◌, arith}
-use Rattle.std.specs.Prelude.{All}
+use Rattle.std.proofs.Common.{◌≡◌, ℕ, zero, suc, ◌+◌, ◌-◌, ◌<◌, List, [], ◌∷◌, ◌++◌, length, Option, Some, None, Result, Ok, Err, refl, sym, subst, ◌∙◌, arith}
+use Rattle.std.specs.Prelude.{All, IsErrAnd}
 use Rattle.std.specs.List.{slice_get}
 use Rattle.wasm_types.specs.Standing.{Stands, NoneStands}
 use Rattle.wasm_types.specs.Numbers.{SpellsU32}
@@ -10,6 +10,11 @@ use Rattle.code_decode.specs.declared.outcome.Stop.{Stop}
 use Rattle.code_decode.specs.declared.outcome.Stop.TheVariants as stop
 use Rattle.wasm_decode.specs.declared.list.Entries.{Entries}
 use Rattle.wasm_decode.specs.Entries.{IsOnce, IsEntry, ReadsEntry, FirstNot, AreEntries, AddsEntry, ReadsEntries}
+
+-- what `?` passes on
+pub passed : {A : Type 0} (P : Result A Stop → Type 0) (r : Result A Stop) (e : Stop) → IsErrAnd r (λ d. d ≡ e) → P (Err e) → P r
+passed P (Ok v) e is h = absurd is
+passed P (Err d) e is h = subst (λ (x : Stop). P (Err x)) (sym is) h
 
 -- ---- items by their numbers
 

@@ -1,5 +1,5 @@
 -- The module, section by section.
-use Rattle.std.proofs.Common.{◌≡◌, ◌≢◌, ◌==◌, ℕ, ◌+◌, ◌<◌, ◌⊎◌, inl, inr, max, Bool, true, false, List, [], ◌∷◌, ◌++◌, length, get_or, take, drop, drop-cons, add-one, Option, Some, None, Ok, Err, refl, sym, ap, subst, ◌∙◌, arith}
+use Rattle.std.proofs.Common.{◌≡◌, ◌≢◌, ◌==◌, ℕ, ◌+◌, ◌<◌, ◌⊎◌, inl, inr, max, Bool, true, false, List, [], ◌∷◌, ◌++◌, length, get_or, take, drop, drop-cons, add-one, lit<, Option, Some, None, Ok, Err, refl, sym, ap, subst, ◌∙◌, arith}
 use Rattle.std.specs.Prelude.{All, map, slice_range, if◌then◌else◌}
 use Rattle.std.specs.List.{slice_get}
 use Rattle.std.proofs.lemmas.List.{append-nil, length-take-le, take-append-drop, take_more}
@@ -17,23 +17,23 @@ use Rattle.code_decode.specs.declared.outcome.Stop.TheVariants as no
 use Rattle.wasm_decode.specs.declared.frames.Frame.{Frame}
 use Rattle.wasm_decode.specs.declared.refusal.DecodeEnd.{DecodeEnd}
 use Rattle.wasm_decode.specs.Frames.{IsFramed, frame_at}
-use Rattle.wasm_decode.specs.Contents.{Contents, custom, types, imports, funcs, tables, mems, globals, exports, start, elems, bodies, segments, SpellsSection, IsSpelled, IsShallowContents, IsShallowSection, FirstUnspelled, FirstDeep, HasParts, put, IsPut, ReadsSection}
+use Rattle.wasm_decode.specs.Contents.{Contents, custom, types, imports, funcs, tables, mems, globals, exports, start, elems, bodies, segments, SpellsSection, IsSpelled, section_id, IsShallowContents, IsShallowSection, FirstUnspelled, FirstDeep, HasParts, put, IsPut, ReadsSection}
 use Rattle.wasm_decode.specs.Decode.{IsRead, Refuses, ReadsSections, first_deep}
 use Rattle.wasm_decode.proofs.EntryLemmas.{get-front, get-within, get-last, get-in, all-get, all-snoc}
 use Rattle.wasm_decode.proofs.FrameLemmas.{length-map_frame_at}
 
 -- ---- the contents of the section with an id
 
-pub contents_skip : (id : ℕ) (fs : List (ℕ × List ℕ)) (f : ℕ × List ℕ) → f.0 ≢ id → contents_of id (fs ++ f ∷ []) ≡ contents_of id fs
-contents_skip id [] f ne = grind (arith, nat_tests)
-contents_skip id (g ∷ gs) f ne = ap (λ (o : Option (List ℕ)). if g.0 == id then Some g.1 else o) (contents_skip id gs f ne)
+contents_skip : (id : ℕ) (fs : List (ℕ × List ℕ)) (f : ℕ × List ℕ) → (f.0 == id) ≡ false → contents_of id (fs ++ f ∷ []) ≡ contents_of id fs
+contents_skip id [] f other = ap (λ (b : Bool). if b then Some f.1 else None) other
+contents_skip id (g ∷ gs) f other = ap (λ (o : Option (List ℕ)). if g.0 == id then Some g.1 else o) (contents_skip id gs f other)
 
-contents_past : (id : ℕ) (gs : List (ℕ × List ℕ)) (f g : ℕ × List ℕ) (same : Bool) → f.0 ≡ id → (if same then Some g.1 else contents_of id gs) ≡ None → (contents_of id gs ≡ None → contents_of id (gs ++ f ∷ []) ≡ Some f.1)
-    → (if same then Some g.1 else contents_of id (gs ++ f ∷ [])) ≡ Some f.1
+contents_past : (id : ℕ) (gs : List (ℕ × List ℕ)) (f g : ℕ × List ℕ) (same : Bool) → f.0 ≡ id → (if same then Some g.1 else contents_of id gs) ≡ None
+    → (contents_of id gs ≡ None → contents_of id (gs ++ f ∷ []) ≡ Some f.1) → (if same then Some g.1 else contents_of id (gs ++ f ∷ [])) ≡ Some f.1
 contents_past id gs f g true e none more = absurd cc
 contents_past id gs f g false e none more = more none
 
-pub contents_new : (id : ℕ) (fs : List (ℕ × List ℕ)) (f : ℕ × List ℕ) → f.0 ≡ id → contents_of id fs ≡ None → contents_of id (fs ++ f ∷ []) ≡ Some f.1
+contents_new : (id : ℕ) (fs : List (ℕ × List ℕ)) (f : ℕ × List ℕ) → f.0 ≡ id → contents_of id fs ≡ None → contents_of id (fs ++ f ∷ []) ≡ Some f.1
 contents_new id [] f e none = grind (arith, nat_tests)
 contents_new id (g ∷ gs) f e none = contents_past id gs f g (g.0 == id) e none (contents_new id gs f e)
 
@@ -56,21 +56,15 @@ is_new low final (g ∷ gs) f rest h =
       | inr lt ↦ elim (is_new (max low g.0) final gs f rest h.1) [ inl e ↦ inl e | inr none ↦ inr (skip_one f.0 gs g (omega arith) none) ]
     ]
 
-new_at : (id : ℕ) (fs : List (ℕ × List ℕ)) (f : ℕ × List ℕ) → 0 < id → id ≡ f.0 → IsNew fs f → contents_of id (fs ++ f ∷ []) ≡ Some f.1
-new_at id fs f some e (inl zero) = absurd (omega arith)
-new_at id fs f some e (inr none) = contents_new id fs f (sym e) (subst (λ (n : ℕ). contents_of n fs ≡ None) (sym e) none)
+-- what holds of the contents with an id, after a section of another id
+kept : (id : ℕ) (fs : List (ℕ × List ℕ)) (f : ℕ × List ℕ) (c : Contents) (P : Option (List ℕ) → Type 0) → SpellsSection f c → (section_id c == id) ≡ false
+    → P (contents_of id fs) → P (contents_of id (fs ++ f ∷ []))
+kept id fs f c P s other h = subst P (sym (contents_skip id fs f (ap (λ (n : ℕ). n == id) (sym s.0) ∙ other))) h
 
-list_kept : {A : Type 0} (P : List ℕ → List A → Type 0) (xs : List A) (id : ℕ) (fs : List (ℕ × List ℕ)) (f : ℕ × List ℕ) → f.0 ≢ id → ListIs P xs (contents_of id fs) → ListIs P xs (contents_of id (fs ++ f ∷ []))
-list_kept P xs id fs f ne h = subst (ListIs P xs) (sym (contents_skip id fs f ne)) h
-
-list_new : {A : Type 0} (P : List ℕ → List A → Type 0) (xs : List A) (id : ℕ) (fs : List (ℕ × List ℕ)) (f : ℕ × List ℕ) → 0 < id → id ≡ f.0 → IsNew fs f → P f.1 xs → ListIs P xs (contents_of id (fs ++ f ∷ []))
-list_new P xs id fs f some e new p = subst (ListIs P xs) (sym (new_at id fs f some e new)) p
-
-start_kept : (v : Option ℕ) (fs : List (ℕ × List ℕ)) (f : ℕ × List ℕ) → f.0 ≢ 8 → OptionIs SpellsU32 v (contents_of 8 fs) → OptionIs SpellsU32 v (contents_of 8 (fs ++ f ∷ []))
-start_kept v fs f ne h = subst (OptionIs SpellsU32 v) (sym (contents_skip 8 fs f ne)) h
-
-start_new : (n : ℕ) (fs : List (ℕ × List ℕ)) (f : ℕ × List ℕ) → 8 ≡ f.0 → IsNew fs f → SpellsU32 f.1 n → OptionIs SpellsU32 (Some n) (contents_of 8 (fs ++ f ∷ []))
-start_new n fs f e new p = subst (OptionIs SpellsU32 (Some n)) (sym (new_at 8 fs f (omega arith) e new)) p
+-- and after the one of the id
+put_now : (id : ℕ) (fs : List (ℕ × List ℕ)) (f : ℕ × List ℕ) (P : Option (List ℕ) → Type 0) → 0 < id → id ≡ f.0 → IsNew fs f → P (Some f.1) → P (contents_of id (fs ++ f ∷ []))
+put_now id fs f P some e (inl zero) p = absurd (omega arith)
+put_now id fs f P some e (inr none) p = subst P (sym (contents_new id fs f (sym e) (subst (λ (n : ℕ). contents_of n fs ≡ None) (sym e) none))) p
 
 pub names_skip : (fs : List (ℕ × List ℕ)) (f : ℕ × List ℕ) (v : Option (List ℕ)) → f.0 ≢ 0 → NamesAre fs v → NamesAre (fs ++ f ∷ []) v
 names_skip [] f v ne h = (None, refl, inl (ne, h))
@@ -97,174 +91,72 @@ names_new (g ∷ gs) f v c e p h = (
 
 -- ---- one section more
 
-pub parts_more : (fs : List (ℕ × List ℕ)) (f : ℕ × List ℕ) (m : Module) (c : Contents) → IsNew fs f → SpellsSection f c → HasParts fs m → HasParts (fs ++ f ∷ []) (put c m)
-parts_more fs f m (custom name payload) new s h = record {
-  types = list_kept SpellsTypes m.types 1 fs f (λ q. omega (arith, s.0, q)) h.types;
-  imports = list_kept SpellsImports m.imports 2 fs f (λ q. omega (arith, s.0, q)) h.imports;
-  funcs = list_kept SpellsFuncs m.funcs 3 fs f (λ q. omega (arith, s.0, q)) h.funcs;
-  tables = list_kept SpellsTables m.tables 4 fs f (λ q. omega (arith, s.0, q)) h.tables;
-  mems = list_kept SpellsMems m.mems 5 fs f (λ q. omega (arith, s.0, q)) h.mems;
-  globals = list_kept SpellsGlobals m.globals 6 fs f (λ q. omega (arith, s.0, q)) h.globals;
-  exports = list_kept SpellsExports m.exports 7 fs f (λ q. omega (arith, s.0, q)) h.exports;
-  start = start_kept m.start fs f (λ q. omega (arith, s.0, q)) h.start;
-  elems = list_kept SpellsElems m.elems 9 fs f (λ q. omega (arith, s.0, q)) h.elems;
-  bodies = list_kept SpellsBodies m.bodies 10 fs f (λ q. omega (arith, s.0, q)) h.bodies;
-  segments = list_kept SpellsSegments m.segments 11 fs f (λ q. omega (arith, s.0, q)) h.segments;
-  names = names_new fs f m.names (name, payload) (sym s.0) s.1 h.names;
-}
-parts_more fs f m (types xs) new s h = record {
-  types = list_new SpellsTypes xs 1 fs f (omega arith) s.0 new s.1;
-  imports = list_kept SpellsImports m.imports 2 fs f (λ q. omega (arith, s.0, q)) h.imports;
-  funcs = list_kept SpellsFuncs m.funcs 3 fs f (λ q. omega (arith, s.0, q)) h.funcs;
-  tables = list_kept SpellsTables m.tables 4 fs f (λ q. omega (arith, s.0, q)) h.tables;
-  mems = list_kept SpellsMems m.mems 5 fs f (λ q. omega (arith, s.0, q)) h.mems;
-  globals = list_kept SpellsGlobals m.globals 6 fs f (λ q. omega (arith, s.0, q)) h.globals;
-  exports = list_kept SpellsExports m.exports 7 fs f (λ q. omega (arith, s.0, q)) h.exports;
-  start = start_kept m.start fs f (λ q. omega (arith, s.0, q)) h.start;
-  elems = list_kept SpellsElems m.elems 9 fs f (λ q. omega (arith, s.0, q)) h.elems;
-  bodies = list_kept SpellsBodies m.bodies 10 fs f (λ q. omega (arith, s.0, q)) h.bodies;
-  segments = list_kept SpellsSegments m.segments 11 fs f (λ q. omega (arith, s.0, q)) h.segments;
-  names = names_skip fs f m.names (λ q. omega (arith, s.0, q)) h.names;
-}
-parts_more fs f m (imports xs) new s h = record {
-  types = list_kept SpellsTypes m.types 1 fs f (λ q. omega (arith, s.0, q)) h.types;
-  imports = list_new SpellsImports xs 2 fs f (omega arith) s.0 new s.1;
-  funcs = list_kept SpellsFuncs m.funcs 3 fs f (λ q. omega (arith, s.0, q)) h.funcs;
-  tables = list_kept SpellsTables m.tables 4 fs f (λ q. omega (arith, s.0, q)) h.tables;
-  mems = list_kept SpellsMems m.mems 5 fs f (λ q. omega (arith, s.0, q)) h.mems;
-  globals = list_kept SpellsGlobals m.globals 6 fs f (λ q. omega (arith, s.0, q)) h.globals;
-  exports = list_kept SpellsExports m.exports 7 fs f (λ q. omega (arith, s.0, q)) h.exports;
-  start = start_kept m.start fs f (λ q. omega (arith, s.0, q)) h.start;
-  elems = list_kept SpellsElems m.elems 9 fs f (λ q. omega (arith, s.0, q)) h.elems;
-  bodies = list_kept SpellsBodies m.bodies 10 fs f (λ q. omega (arith, s.0, q)) h.bodies;
-  segments = list_kept SpellsSegments m.segments 11 fs f (λ q. omega (arith, s.0, q)) h.segments;
-  names = names_skip fs f m.names (λ q. omega (arith, s.0, q)) h.names;
-}
-parts_more fs f m (funcs xs) new s h = record {
-  types = list_kept SpellsTypes m.types 1 fs f (λ q. omega (arith, s.0, q)) h.types;
-  imports = list_kept SpellsImports m.imports 2 fs f (λ q. omega (arith, s.0, q)) h.imports;
-  funcs = list_new SpellsFuncs xs 3 fs f (omega arith) s.0 new s.1;
-  tables = list_kept SpellsTables m.tables 4 fs f (λ q. omega (arith, s.0, q)) h.tables;
-  mems = list_kept SpellsMems m.mems 5 fs f (λ q. omega (arith, s.0, q)) h.mems;
-  globals = list_kept SpellsGlobals m.globals 6 fs f (λ q. omega (arith, s.0, q)) h.globals;
-  exports = list_kept SpellsExports m.exports 7 fs f (λ q. omega (arith, s.0, q)) h.exports;
-  start = start_kept m.start fs f (λ q. omega (arith, s.0, q)) h.start;
-  elems = list_kept SpellsElems m.elems 9 fs f (λ q. omega (arith, s.0, q)) h.elems;
-  bodies = list_kept SpellsBodies m.bodies 10 fs f (λ q. omega (arith, s.0, q)) h.bodies;
-  segments = list_kept SpellsSegments m.segments 11 fs f (λ q. omega (arith, s.0, q)) h.segments;
-  names = names_skip fs f m.names (λ q. omega (arith, s.0, q)) h.names;
-}
-parts_more fs f m (tables xs) new s h = record {
-  types = list_kept SpellsTypes m.types 1 fs f (λ q. omega (arith, s.0, q)) h.types;
-  imports = list_kept SpellsImports m.imports 2 fs f (λ q. omega (arith, s.0, q)) h.imports;
-  funcs = list_kept SpellsFuncs m.funcs 3 fs f (λ q. omega (arith, s.0, q)) h.funcs;
-  tables = list_new SpellsTables xs 4 fs f (omega arith) s.0 new s.1;
-  mems = list_kept SpellsMems m.mems 5 fs f (λ q. omega (arith, s.0, q)) h.mems;
-  globals = list_kept SpellsGlobals m.globals 6 fs f (λ q. omega (arith, s.0, q)) h.globals;
-  exports = list_kept SpellsExports m.exports 7 fs f (λ q. omega (arith, s.0, q)) h.exports;
-  start = start_kept m.start fs f (λ q. omega (arith, s.0, q)) h.start;
-  elems = list_kept SpellsElems m.elems 9 fs f (λ q. omega (arith, s.0, q)) h.elems;
-  bodies = list_kept SpellsBodies m.bodies 10 fs f (λ q. omega (arith, s.0, q)) h.bodies;
-  segments = list_kept SpellsSegments m.segments 11 fs f (λ q. omega (arith, s.0, q)) h.segments;
-  names = names_skip fs f m.names (λ q. omega (arith, s.0, q)) h.names;
-}
-parts_more fs f m (mems xs) new s h = record {
-  types = list_kept SpellsTypes m.types 1 fs f (λ q. omega (arith, s.0, q)) h.types;
-  imports = list_kept SpellsImports m.imports 2 fs f (λ q. omega (arith, s.0, q)) h.imports;
-  funcs = list_kept SpellsFuncs m.funcs 3 fs f (λ q. omega (arith, s.0, q)) h.funcs;
-  tables = list_kept SpellsTables m.tables 4 fs f (λ q. omega (arith, s.0, q)) h.tables;
-  mems = list_new SpellsMems xs 5 fs f (omega arith) s.0 new s.1;
-  globals = list_kept SpellsGlobals m.globals 6 fs f (λ q. omega (arith, s.0, q)) h.globals;
-  exports = list_kept SpellsExports m.exports 7 fs f (λ q. omega (arith, s.0, q)) h.exports;
-  start = start_kept m.start fs f (λ q. omega (arith, s.0, q)) h.start;
-  elems = list_kept SpellsElems m.elems 9 fs f (λ q. omega (arith, s.0, q)) h.elems;
-  bodies = list_kept SpellsBodies m.bodies 10 fs f (λ q. omega (arith, s.0, q)) h.bodies;
-  segments = list_kept SpellsSegments m.segments 11 fs f (λ q. omega (arith, s.0, q)) h.segments;
-  names = names_skip fs f m.names (λ q. omega (arith, s.0, q)) h.names;
-}
-parts_more fs f m (globals xs) new s h = record {
-  types = list_kept SpellsTypes m.types 1 fs f (λ q. omega (arith, s.0, q)) h.types;
-  imports = list_kept SpellsImports m.imports 2 fs f (λ q. omega (arith, s.0, q)) h.imports;
-  funcs = list_kept SpellsFuncs m.funcs 3 fs f (λ q. omega (arith, s.0, q)) h.funcs;
-  tables = list_kept SpellsTables m.tables 4 fs f (λ q. omega (arith, s.0, q)) h.tables;
-  mems = list_kept SpellsMems m.mems 5 fs f (λ q. omega (arith, s.0, q)) h.mems;
-  globals = list_new SpellsGlobals xs 6 fs f (omega arith) s.0 new s.1;
-  exports = list_kept SpellsExports m.exports 7 fs f (λ q. omega (arith, s.0, q)) h.exports;
-  start = start_kept m.start fs f (λ q. omega (arith, s.0, q)) h.start;
-  elems = list_kept SpellsElems m.elems 9 fs f (λ q. omega (arith, s.0, q)) h.elems;
-  bodies = list_kept SpellsBodies m.bodies 10 fs f (λ q. omega (arith, s.0, q)) h.bodies;
-  segments = list_kept SpellsSegments m.segments 11 fs f (λ q. omega (arith, s.0, q)) h.segments;
-  names = names_skip fs f m.names (λ q. omega (arith, s.0, q)) h.names;
-}
-parts_more fs f m (exports xs) new s h = record {
-  types = list_kept SpellsTypes m.types 1 fs f (λ q. omega (arith, s.0, q)) h.types;
-  imports = list_kept SpellsImports m.imports 2 fs f (λ q. omega (arith, s.0, q)) h.imports;
-  funcs = list_kept SpellsFuncs m.funcs 3 fs f (λ q. omega (arith, s.0, q)) h.funcs;
-  tables = list_kept SpellsTables m.tables 4 fs f (λ q. omega (arith, s.0, q)) h.tables;
-  mems = list_kept SpellsMems m.mems 5 fs f (λ q. omega (arith, s.0, q)) h.mems;
-  globals = list_kept SpellsGlobals m.globals 6 fs f (λ q. omega (arith, s.0, q)) h.globals;
-  exports = list_new SpellsExports xs 7 fs f (omega arith) s.0 new s.1;
-  start = start_kept m.start fs f (λ q. omega (arith, s.0, q)) h.start;
-  elems = list_kept SpellsElems m.elems 9 fs f (λ q. omega (arith, s.0, q)) h.elems;
-  bodies = list_kept SpellsBodies m.bodies 10 fs f (λ q. omega (arith, s.0, q)) h.bodies;
-  segments = list_kept SpellsSegments m.segments 11 fs f (λ q. omega (arith, s.0, q)) h.segments;
-  names = names_skip fs f m.names (λ q. omega (arith, s.0, q)) h.names;
-}
-parts_more fs f m (start func) new s h = record {
-  types = list_kept SpellsTypes m.types 1 fs f (λ q. omega (arith, s.0, q)) h.types;
-  imports = list_kept SpellsImports m.imports 2 fs f (λ q. omega (arith, s.0, q)) h.imports;
-  funcs = list_kept SpellsFuncs m.funcs 3 fs f (λ q. omega (arith, s.0, q)) h.funcs;
-  tables = list_kept SpellsTables m.tables 4 fs f (λ q. omega (arith, s.0, q)) h.tables;
-  mems = list_kept SpellsMems m.mems 5 fs f (λ q. omega (arith, s.0, q)) h.mems;
-  globals = list_kept SpellsGlobals m.globals 6 fs f (λ q. omega (arith, s.0, q)) h.globals;
-  exports = list_kept SpellsExports m.exports 7 fs f (λ q. omega (arith, s.0, q)) h.exports;
-  start = start_new func fs f s.0 new s.1;
-  elems = list_kept SpellsElems m.elems 9 fs f (λ q. omega (arith, s.0, q)) h.elems;
-  bodies = list_kept SpellsBodies m.bodies 10 fs f (λ q. omega (arith, s.0, q)) h.bodies;
-  segments = list_kept SpellsSegments m.segments 11 fs f (λ q. omega (arith, s.0, q)) h.segments;
-  names = names_skip fs f m.names (λ q. omega (arith, s.0, q)) h.names;
-}
-parts_more fs f m (elems xs) new s h = record {
-  types = list_kept SpellsTypes m.types 1 fs f (λ q. omega (arith, s.0, q)) h.types;
-  imports = list_kept SpellsImports m.imports 2 fs f (λ q. omega (arith, s.0, q)) h.imports;
-  funcs = list_kept SpellsFuncs m.funcs 3 fs f (λ q. omega (arith, s.0, q)) h.funcs;
-  tables = list_kept SpellsTables m.tables 4 fs f (λ q. omega (arith, s.0, q)) h.tables;
-  mems = list_kept SpellsMems m.mems 5 fs f (λ q. omega (arith, s.0, q)) h.mems;
-  globals = list_kept SpellsGlobals m.globals 6 fs f (λ q. omega (arith, s.0, q)) h.globals;
-  exports = list_kept SpellsExports m.exports 7 fs f (λ q. omega (arith, s.0, q)) h.exports;
-  start = start_kept m.start fs f (λ q. omega (arith, s.0, q)) h.start;
-  elems = list_new SpellsElems xs 9 fs f (omega arith) s.0 new s.1;
-  bodies = list_kept SpellsBodies m.bodies 10 fs f (λ q. omega (arith, s.0, q)) h.bodies;
-  segments = list_kept SpellsSegments m.segments 11 fs f (λ q. omega (arith, s.0, q)) h.segments;
-  names = names_skip fs f m.names (λ q. omega (arith, s.0, q)) h.names;
-}
-parts_more fs f m (bodies xs) new s h = record {
-  types = list_kept SpellsTypes m.types 1 fs f (λ q. omega (arith, s.0, q)) h.types;
-  imports = list_kept SpellsImports m.imports 2 fs f (λ q. omega (arith, s.0, q)) h.imports;
-  funcs = list_kept SpellsFuncs m.funcs 3 fs f (λ q. omega (arith, s.0, q)) h.funcs;
-  tables = list_kept SpellsTables m.tables 4 fs f (λ q. omega (arith, s.0, q)) h.tables;
-  mems = list_kept SpellsMems m.mems 5 fs f (λ q. omega (arith, s.0, q)) h.mems;
-  globals = list_kept SpellsGlobals m.globals 6 fs f (λ q. omega (arith, s.0, q)) h.globals;
-  exports = list_kept SpellsExports m.exports 7 fs f (λ q. omega (arith, s.0, q)) h.exports;
-  start = start_kept m.start fs f (λ q. omega (arith, s.0, q)) h.start;
-  elems = list_kept SpellsElems m.elems 9 fs f (λ q. omega (arith, s.0, q)) h.elems;
-  bodies = list_new SpellsBodies xs 10 fs f (omega arith) s.0 new s.1;
-  segments = list_kept SpellsSegments m.segments 11 fs f (λ q. omega (arith, s.0, q)) h.segments;
-  names = names_skip fs f m.names (λ q. omega (arith, s.0, q)) h.names;
-}
-parts_more fs f m (segments xs) new s h = record {
-  types = list_kept SpellsTypes m.types 1 fs f (λ q. omega (arith, s.0, q)) h.types;
-  imports = list_kept SpellsImports m.imports 2 fs f (λ q. omega (arith, s.0, q)) h.imports;
-  funcs = list_kept SpellsFuncs m.funcs 3 fs f (λ q. omega (arith, s.0, q)) h.funcs;
-  tables = list_kept SpellsTables m.tables 4 fs f (λ q. omega (arith, s.0, q)) h.tables;
-  mems = list_kept SpellsMems m.mems 5 fs f (λ q. omega (arith, s.0, q)) h.mems;
-  globals = list_kept SpellsGlobals m.globals 6 fs f (λ q. omega (arith, s.0, q)) h.globals;
-  exports = list_kept SpellsExports m.exports 7 fs f (λ q. omega (arith, s.0, q)) h.exports;
-  start = start_kept m.start fs f (λ q. omega (arith, s.0, q)) h.start;
-  elems = list_kept SpellsElems m.elems 9 fs f (λ q. omega (arith, s.0, q)) h.elems;
-  bodies = list_kept SpellsBodies m.bodies 10 fs f (λ q. omega (arith, s.0, q)) h.bodies;
-  segments = list_new SpellsSegments xs 11 fs f (omega arith) s.0 new s.1;
-  names = names_skip fs f m.names (λ q. omega (arith, s.0, q)) h.names;
+-- what holds of the sections and the module holds with one section more
+abbrev Lasts : (List (ℕ × List ℕ) → Module → Type 0) → Type 0
+Lasts P = (fs : List (ℕ × List ℕ)) (f : ℕ × List ℕ) (m : Module) (c : Contents) → IsNew fs f → SpellsSection f c → P fs m → P (fs ++ f ∷ []) (put c m)
+
+types_last : Lasts (λ fs m. ListIs SpellsTypes m.types (contents_of 1 fs))
+types_last fs f m (types xs) new s h = put_now 1 fs f (ListIs SpellsTypes xs) (lit< tt) s.0 new s.1
+types_last fs f m c new s h = kept 1 fs f c (ListIs SpellsTypes m.types) s refl h
+
+imports_last : Lasts (λ fs m. ListIs SpellsImports m.imports (contents_of 2 fs))
+imports_last fs f m (imports xs) new s h = put_now 2 fs f (ListIs SpellsImports xs) (lit< tt) s.0 new s.1
+imports_last fs f m c new s h = kept 2 fs f c (ListIs SpellsImports m.imports) s refl h
+
+funcs_last : Lasts (λ fs m. ListIs SpellsFuncs m.funcs (contents_of 3 fs))
+funcs_last fs f m (funcs xs) new s h = put_now 3 fs f (ListIs SpellsFuncs xs) (lit< tt) s.0 new s.1
+funcs_last fs f m c new s h = kept 3 fs f c (ListIs SpellsFuncs m.funcs) s refl h
+
+tables_last : Lasts (λ fs m. ListIs SpellsTables m.tables (contents_of 4 fs))
+tables_last fs f m (tables xs) new s h = put_now 4 fs f (ListIs SpellsTables xs) (lit< tt) s.0 new s.1
+tables_last fs f m c new s h = kept 4 fs f c (ListIs SpellsTables m.tables) s refl h
+
+mems_last : Lasts (λ fs m. ListIs SpellsMems m.mems (contents_of 5 fs))
+mems_last fs f m (mems xs) new s h = put_now 5 fs f (ListIs SpellsMems xs) (lit< tt) s.0 new s.1
+mems_last fs f m c new s h = kept 5 fs f c (ListIs SpellsMems m.mems) s refl h
+
+globals_last : Lasts (λ fs m. ListIs SpellsGlobals m.globals (contents_of 6 fs))
+globals_last fs f m (globals xs) new s h = put_now 6 fs f (ListIs SpellsGlobals xs) (lit< tt) s.0 new s.1
+globals_last fs f m c new s h = kept 6 fs f c (ListIs SpellsGlobals m.globals) s refl h
+
+exports_last : Lasts (λ fs m. ListIs SpellsExports m.exports (contents_of 7 fs))
+exports_last fs f m (exports xs) new s h = put_now 7 fs f (ListIs SpellsExports xs) (lit< tt) s.0 new s.1
+exports_last fs f m c new s h = kept 7 fs f c (ListIs SpellsExports m.exports) s refl h
+
+start_last : Lasts (λ fs m. OptionIs SpellsU32 m.start (contents_of 8 fs))
+start_last fs f m (start n) new s h = put_now 8 fs f (OptionIs SpellsU32 (Some n)) (lit< tt) s.0 new s.1
+start_last fs f m c new s h = kept 8 fs f c (OptionIs SpellsU32 m.start) s refl h
+
+elems_last : Lasts (λ fs m. ListIs SpellsElems m.elems (contents_of 9 fs))
+elems_last fs f m (elems xs) new s h = put_now 9 fs f (ListIs SpellsElems xs) (lit< tt) s.0 new s.1
+elems_last fs f m c new s h = kept 9 fs f c (ListIs SpellsElems m.elems) s refl h
+
+bodies_last : Lasts (λ fs m. ListIs SpellsBodies m.bodies (contents_of 10 fs))
+bodies_last fs f m (bodies xs) new s h = put_now 10 fs f (ListIs SpellsBodies xs) (lit< tt) s.0 new s.1
+bodies_last fs f m c new s h = kept 10 fs f c (ListIs SpellsBodies m.bodies) s refl h
+
+segments_last : Lasts (λ fs m. ListIs SpellsSegments m.segments (contents_of 11 fs))
+segments_last fs f m (segments xs) new s h = put_now 11 fs f (ListIs SpellsSegments xs) (lit< tt) s.0 new s.1
+segments_last fs f m c new s h = kept 11 fs f c (ListIs SpellsSegments m.segments) s refl h
+
+names_last : Lasts (λ fs m. NamesAre fs m.names)
+names_last fs f m (custom name payload) new s h = names_new fs f m.names (name, payload) (sym s.0) s.1 h
+names_last fs f m c new s h = names_skip fs f m.names (λ q. omega (arith, s.0, q)) h
+
+pub parts_more : Lasts HasParts
+parts_more fs f m c new s h = record {
+  types = types_last fs f m c new s h.types;
+  imports = imports_last fs f m c new s h.imports;
+  funcs = funcs_last fs f m c new s h.funcs;
+  tables = tables_last fs f m c new s h.tables;
+  mems = mems_last fs f m c new s h.mems;
+  globals = globals_last fs f m c new s h.globals;
+  exports = exports_last fs f m c new s h.exports;
+  start = start_last fs f m c new s h.start;
+  elems = elems_last fs f m c new s h.elems;
+  bodies = bodies_last fs f m c new s h.bodies;
+  segments = segments_last fs f m c new s h.segments;
+  names = names_last fs f m c new s h.names;
 }
 
 pub nests_more : (m : Module) (c : Contents) → NestsAtMost most_nesting m → IsShallowContents c → NestsAtMost most_nesting (put c m)
@@ -272,14 +164,7 @@ nests_more m (globals xs) h s = record { globals = s; elems = h.elems; bodies = 
 nests_more m (elems xs) h s = record { globals = h.globals; elems = s; bodies = h.bodies; segments = h.segments }
 nests_more m (bodies xs) h s = record { globals = h.globals; elems = h.elems; bodies = s; segments = h.segments }
 nests_more m (segments xs) h s = record { globals = h.globals; elems = h.elems; bodies = h.bodies; segments = s }
-nests_more m (custom name payload) h s = record { globals = h.globals; elems = h.elems; bodies = h.bodies; segments = h.segments }
-nests_more m (types xs) h s = record { globals = h.globals; elems = h.elems; bodies = h.bodies; segments = h.segments }
-nests_more m (imports xs) h s = record { globals = h.globals; elems = h.elems; bodies = h.bodies; segments = h.segments }
-nests_more m (funcs xs) h s = record { globals = h.globals; elems = h.elems; bodies = h.bodies; segments = h.segments }
-nests_more m (tables xs) h s = record { globals = h.globals; elems = h.elems; bodies = h.bodies; segments = h.segments }
-nests_more m (mems xs) h s = record { globals = h.globals; elems = h.elems; bodies = h.bodies; segments = h.segments }
-nests_more m (exports xs) h s = record { globals = h.globals; elems = h.elems; bodies = h.bodies; segments = h.segments }
-nests_more m (start func) h s = record { globals = h.globals; elems = h.elems; bodies = h.bodies; segments = h.segments }
+nests_more m c h s = record { globals = h.globals; elems = h.elems; bodies = h.bodies; segments = h.segments }
 
 deep_still : (fs : List (ℕ × List ℕ)) (f : ℕ × List ℕ) (id entry : ℕ) → FirstDeep fs id entry → FirstDeep (fs ++ f ∷ []) id entry
 deep_still fs f id entry d = let lt = get-in fs d.k (id, d.text) d.there in record {

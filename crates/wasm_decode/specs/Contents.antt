@@ -16,7 +16,6 @@ use Rattle.wasm_types.specs.Sections.{SpellsCustom, SpellsTypes, SpellsImports, 
 use Rattle.wasm_types.specs.Modules.{contents_of, ListIs, OptionIs, NamesAre, named_payload, later_of}
 use Rattle.code_decode.specs.declared.outcome.Stop.{Stop}
 use Rattle.code_decode.specs.declared.outcome.Stop.TheVariants as stop
-use Rattle.wasm_decode.specs.declared.list.Entries.{Entries}
 use Rattle.wasm_decode.specs.Depth.{IsShallowGlobal, IsShallowElem, IsShallowBody, IsShallowSegment}
 use Rattle.wasm_decode.specs.Entries.{FirstNot, AreEntries}
 
@@ -126,28 +125,22 @@ pub record HasParts (frames : List (ℕ × List ℕ)) (m : Module) : Type 0 wher
 
 -- the module with what one more section has
 abbrev pub put : Contents → Module → Module
-put (custom name payload) m = record { types = m.types; imports = m.imports; funcs = m.funcs; tables = m.tables; mems = m.mems; globals = m.globals; exports = m.exports; start = m.start; elems = m.elems; bodies = m.bodies; segments = m.segments; names = later_of (named_payload (name, payload)) m.names }
-put (types xs) m = record { types = xs; imports = m.imports; funcs = m.funcs; tables = m.tables; mems = m.mems; globals = m.globals; exports = m.exports; start = m.start; elems = m.elems; bodies = m.bodies; segments = m.segments; names = m.names }
-put (imports xs) m = record { types = m.types; imports = xs; funcs = m.funcs; tables = m.tables; mems = m.mems; globals = m.globals; exports = m.exports; start = m.start; elems = m.elems; bodies = m.bodies; segments = m.segments; names = m.names }
-put (funcs xs) m = record { types = m.types; imports = m.imports; funcs = xs; tables = m.tables; mems = m.mems; globals = m.globals; exports = m.exports; start = m.start; elems = m.elems; bodies = m.bodies; segments = m.segments; names = m.names }
-put (tables xs) m = record { types = m.types; imports = m.imports; funcs = m.funcs; tables = xs; mems = m.mems; globals = m.globals; exports = m.exports; start = m.start; elems = m.elems; bodies = m.bodies; segments = m.segments; names = m.names }
-put (mems xs) m = record { types = m.types; imports = m.imports; funcs = m.funcs; tables = m.tables; mems = xs; globals = m.globals; exports = m.exports; start = m.start; elems = m.elems; bodies = m.bodies; segments = m.segments; names = m.names }
-put (globals xs) m = record { types = m.types; imports = m.imports; funcs = m.funcs; tables = m.tables; mems = m.mems; globals = xs; exports = m.exports; start = m.start; elems = m.elems; bodies = m.bodies; segments = m.segments; names = m.names }
-put (exports xs) m = record { types = m.types; imports = m.imports; funcs = m.funcs; tables = m.tables; mems = m.mems; globals = m.globals; exports = xs; start = m.start; elems = m.elems; bodies = m.bodies; segments = m.segments; names = m.names }
-put (start func) m = record { types = m.types; imports = m.imports; funcs = m.funcs; tables = m.tables; mems = m.mems; globals = m.globals; exports = m.exports; start = Some func; elems = m.elems; bodies = m.bodies; segments = m.segments; names = m.names }
-put (elems xs) m = record { types = m.types; imports = m.imports; funcs = m.funcs; tables = m.tables; mems = m.mems; globals = m.globals; exports = m.exports; start = m.start; elems = xs; bodies = m.bodies; segments = m.segments; names = m.names }
-put (bodies xs) m = record { types = m.types; imports = m.imports; funcs = m.funcs; tables = m.tables; mems = m.mems; globals = m.globals; exports = m.exports; start = m.start; elems = m.elems; bodies = xs; segments = m.segments; names = m.names }
-put (segments xs) m = record { types = m.types; imports = m.imports; funcs = m.funcs; tables = m.tables; mems = m.mems; globals = m.globals; exports = m.exports; start = m.start; elems = m.elems; bodies = m.bodies; segments = xs; names = m.names }
+put (custom name payload) m = record m { names = later_of (named_payload (name, payload)) m.names }
+put (types xs) m = record m { types = xs }
+put (imports xs) m = record m { imports = xs }
+put (funcs xs) m = record m { funcs = xs }
+put (tables xs) m = record m { tables = xs }
+put (mems xs) m = record m { mems = xs }
+put (globals xs) m = record m { globals = xs }
+put (exports xs) m = record m { exports = xs }
+put (start func) m = record m { start = Some func }
+put (elems xs) m = record m { elems = xs }
+put (bodies xs) m = record m { bodies = xs }
+put (segments xs) m = record m { segments = xs }
 
 -- ---- what readers of contents answer
 
--- what the whole text spells: all entries, or how many there are before the first that nests too deep
-abbrev pub ReadsWhole : {A : Type 0} → (List ℕ → A → Type 0) → (A → Type 0) → List ℕ → Result (Entries A) Stop → Type 0
-ReadsWhole {A} Spelled Shallow text (Ok found) = (xs : List A) × Counted Spelled text xs × AreEntries Shallow found.items found.deep xs
-ReadsWhole {A} Spelled Shallow text (Err stop.No) = (xs : List A) → Counted Spelled text xs → ⊥
-ReadsWhole Spelled Shallow text (Err stop.Memory) = Unit {0}
-
--- the same, where the entries are kept elsewhere
+-- what is kept of the vector that the whole text spells: all entries, or how many there are before the first that nests too deep
 abbrev pub Keeps : {A : Type 0} → (List ℕ → A → Type 0) → (A → Type 0) → List ℕ → List A → Result (Option ℕ) Stop → Type 0
 Keeps {A} Spelled Shallow text kept (Ok deep) = (xs : List A) × Counted Spelled text xs × AreEntries Shallow kept deep xs
 Keeps {A} Spelled Shallow text kept (Err stop.No) = (xs : List A) → Counted Spelled text xs → ⊥
