@@ -7,8 +7,6 @@ mod plain;
 mod read;
 mod scan;
 mod table;
-#[cfg(test)]
-mod tests;
 
 pub use expr::{CodeRefusal, read_expr};
 pub use outcome::Stop;

@@ -6,8 +6,6 @@ mod items;
 mod module;
 mod opcodes;
 mod sections;
-#[cfg(test)]
-mod tests;
 mod text;
 
 pub use module::encode;

@@ -1,4 +1,6 @@
-use super::*;
+//! LEB128 numbers, both ways.
+
+use leb_codec::{read_s32, read_s64, read_u32, write_s32, write_s64, write_u32};
 use std::test::Fail;
 
 #[test]

@@ -4,8 +4,7 @@ use Rattle.wasm_types.specs.WellFormed.{IsU8}
 use Rattle.wasm_types.proofs.LeastLemmas.{canon_is_least}
 use Rattle.wasm_types.proofs.ProperLemmas.{spelled_well_formed}
 use Rattle.wasm_types.proofs.SizeLemmas.{has_at_most, has_at_most_more}
-use Rattle.wassail_top.specs.Answers.{most_bytes}
-use Rattle.wassail_top.proofs.layer_tests.decoded.Goals as goal
+use Rattle.layer_tests.proofs.modules.decoded.Goals as goal
 
 pub returns-in-Ok-clause-well_formed : goal.returns-in-Ok-clause-well_formed
 returns-in-Ok-clause-well_formed c =
@@ -16,4 +15,4 @@ returns-in-Ok-clause-short c = omega (arith, canon_is_least c.args.bytes.now c.i
 
 pub returns-in-Ok-clause-entries : goal.returns-in-Ok-clause-entries
 returns-in-Ok-clause-entries c =
-    has_at_most_more most_bytes 0x7FFF_FFFF c.in-Ok.module (omega arith) (has_at_most c.in-Ok.module most_bytes (omega (arith, canon_is_least c.args.bytes.now c.in-Ok.module c.in-Ok.ensures.0, c.requires)))
+    has_at_most_more 8388608 0x7FFF_FFFF c.in-Ok.module (omega arith) (has_at_most c.in-Ok.module 8388608 (omega (arith, canon_is_least c.args.bytes.now c.in-Ok.module c.in-Ok.ensures.0, c.requires)))

@@ -1,5 +1,8 @@
-use crate::{DecodeEnd, decode};
+//! Modules and expressions from bytes.
+
+use code_decode::{CodeRefusal, read_expr};
 use std::alloc::{AllocError, Global};
+use wasm_decode::{DecodeEnd, decode};
 use wasm_types::Module;
 
 /// `(module (func (param i32 i32) (result i32) local.get 0 local.get 1 i32.add))`, as wabt assembles it.
@@ -132,5 +135,33 @@ fn code_may_nest_1024_blocks(rt: HostRuntime) -> Result<(), AllocError> {
     assert!(&rt; refusal(alloc, &deeper) == Some(DecodeEnd::Section { k: 2, id: 11 }));
     let open = nested(alloc, 1025, 0x01)?;
     assert!(&rt; refusal(alloc, &open) == Some(DecodeEnd::Section { k: 1, id: 10 }));
+    Ok(())
+}
+
+/// So many blocks in one another, and the end of the expression.
+fn blocks(alloc: Global, depth: u32) -> Result<Vec<u8>, AllocError> {
+    let mut bytes = Vec::new(alloc);
+    for _ in 0..depth {
+        bytes.push(0x02)?;
+        bytes.push(0x40)?;
+    }
+    for _ in 0..depth {
+        bytes.push(0x0B)?;
+    }
+    bytes.push(0x0B)?;
+    Ok(bytes)
+}
+
+#[test]
+fn an_expression_may_nest_1024_blocks(rt: HostRuntime) -> Result<(), AllocError> {
+    let alloc = rt.alloc();
+    let deepest = blocks(alloc, 1024)?;
+    assert!(&rt; matches!(read_expr(alloc, &deepest, 0), Ok((_, 3073))));
+    let mut far = blocks(alloc, 200000)?;
+    let read = read_expr(alloc, &far, 0);
+    assert!(&rt; matches!(read, Err(CodeRefusal::TooDeep { end: 600001 })));
+    far.pop();
+    let cut = read_expr(alloc, &far, 0);
+    assert!(&rt; matches!(cut, Err(CodeRefusal::Malformed)));
     Ok(())
 }

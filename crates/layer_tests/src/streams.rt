@@ -1,4 +1,8 @@
-use super::*;
+//! Sources and sinks in memory, and the adapters of streams.
+
+use outside_io::{
+    Failed, MemSink, MemSource, QuietSource, ReadEnd, Sink, StdSink, StdSource, read_all, write_all,
+};
 use std::test::Fail;
 
 #[test]

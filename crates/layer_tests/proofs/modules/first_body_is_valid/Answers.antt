@@ -5,7 +5,7 @@ use Rattle.wasm_types.specs.Spaces.{body_of, import_count}
 use Rattle.wasm_types.specs.Subset.{most_nesting}
 use Rattle.body_check.proofs.BodyLemmas.{body-among}
 use Rattle.wasm_validate.proofs.EntryLemmas.{all_at, if_some}
-use Rattle.wassail_top.proofs.layer_tests.first_body_is_valid.Goals as goal
+use Rattle.layer_tests.proofs.modules.first_body_is_valid.Goals as goal
 
 pub check_body-requires-clause-nesting : goal.check_body-requires-clause-nesting
 check_body-requires-clause-nesting c =
