@@ -4,3 +4,4 @@ pub mod Heights
 pub mod Kept
 pub mod Sliced
 pub mod Bounds
+pub mod Law

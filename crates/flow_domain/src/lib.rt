@@ -1,2 +1,6 @@
 //! The definitions of the analyses: what is kept, what a cut is, and what a sliced module is. They speak of code, and of no run.
 #![tactic(auto)]
+
+mod laws;
+
+pub use laws::{law_kept_is_closed, law_kept_is_least};
