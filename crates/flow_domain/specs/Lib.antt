@@ -5,3 +5,4 @@ pub mod Kept
 pub mod Sliced
 pub mod Bounds
 pub mod Law
+pub mod Flat
