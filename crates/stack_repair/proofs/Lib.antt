@@ -1,3 +1,4 @@
+pub mod FlatCut
 mod Positions
 mod Live
 mod Counting

@@ -1,1 +1,2 @@
+pub mod FlatCut
 pub mod Law
