@@ -4,3 +4,5 @@ pub mod Heights
 pub mod Kept
 pub mod Sliced
 pub mod Bounds
+pub mod Rows
+pub mod Reach

@@ -1,0 +1,2 @@
+//! Two runs of code: what a summary leaves out has no influence.
+#![tactic(auto)]
