@@ -1,5 +1,5 @@
 -- Positions as a flat list against positions in the tree.
-use Rattle.std.proofs.Common.{◌≡◌, ℕ, zero, suc, ◌+◌, ◌-◌, ◌≤◌, ◌<◌, inl, inr, List, [], ◌∷◌, ◌++◌, Bool, true, false, Option, Some, None, drop, length, replicate, slice_get, refl, sym, ap, ◌∙◌, subst, arith, true≢false, length-append, append_assoc, length-drop}
+use Rattle.std.proofs.Common.{◌≡◌, ℕ, zero, suc, ◌+◌, ◌-◌, ◌≤◌, inl, inr, List, [], ◌∷◌, ◌++◌, Bool, true, false, Option, Some, None, drop, length, replicate, slice_get, refl, sym, ap, ◌∙◌, subst, arith, true≢false, length-append, append_assoc, length-drop}
 use Rattle.wasm_types.specs.declared.instr.Instr.{Instr}
 use Rattle.wasm_types.specs.Actions.{Callees, callees, leaves, takes}
 use Rattle.flow_laws.proofs.Closed.{BlockOk, BrOk, Closed, Cuts, Dark, DoOk, Mode, Skip, cuts, strict}

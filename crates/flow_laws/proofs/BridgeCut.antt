@@ -12,7 +12,7 @@ use Rattle.wasm_types.specs.declared.place.Node.{Node}
 use Rattle.wasm_types.specs.Nodes.{At, Join, named, made, AllIn}
 use Rattle.wasm_types.specs.Sites.{DoHead, IfHead, BrIfHead, BrTableHead, Site, Sites, sites, IsSite, Branches, EndAt, one_end, end_names, inner_ends, all_operands, past, into, branches, Leads, from_at, from_join, carry_names, Among}
 use Rattle.wasm_types.specs.Reaching.{Writes}
-use Rattle.wasm_types.specs.Shadow.{Inside, at_position, at_join, arms, later, around, looping, InShadow, if_join}
+use Rattle.wasm_types.specs.Shadow.{Inside, arms, later, around, looping, InShadow, if_join}
 use Rattle.flow_laws.specs.Cutting.{IsShown}
 use Rattle.flow_domain.specs.Heights.{HasLabel, Shaped}
 use Rattle.flow_laws.proofs.Closed.{Dark, Cuts, DoOk, BlockOk, BrOk, Closed}

@@ -21,3 +21,8 @@ pub mod Starts
 pub mod Imports
 pub mod Laws
 pub mod Classical
+pub mod Erase
+pub mod Longer
+pub mod Ends
+pub mod Sound
+pub mod Invocations

@@ -1,6 +1,6 @@
 -- An instruction is a call or not: what is known of it then.
 use Rattle.wasm_meaning.specs.Laws.{ActionLaw}
-use Rattle.std.proofs.Common.{ap₂, ◌==◌, ◌&&◌, ◌≡◌, ℕ, suc, List, [], ◌∷◌, Bool, true, false, Option, Some, None, nat_eq, if◌then◌else◌, length, refl, sym, ap, ◌∙◌, subst, arith, true≢false}
+use Rattle.std.proofs.Common.{ap₂, ◌==◌, ◌&&◌, ◌≡◌, ℕ, suc, List, [], ◌∷◌, Bool, true, false, Option, Some, None, length, refl, sym, ap, ◌∙◌, subst, arith, true≢false}
 use Rattle.wasm_types.specs.declared.module.ValType.{ValType}
 use Rattle.wasm_types.specs.declared.module.Value.{Value}
 use Rattle.wasm_types.specs.declared.module.ValType.TheVariants as type

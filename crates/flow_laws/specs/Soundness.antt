@@ -1,20 +1,16 @@
 -- The table of rows is sound.
-use Rattle.std.specs.Prelude.{◌≡◌, ℕ, ◌+◌, ◌≤◌, List, [], Bool, true, false, Some, length}
+use Rattle.std.specs.Prelude.{◌≡◌, ℕ, ◌+◌, List, [], Bool, true, false, Some, length}
 use Rattle.wasm_types.specs.declared.module.Value.{Value}
 use Rattle.wasm_types.specs.declared.module.Module.{Module}
-use Rattle.wasm_types.specs.Marked.{Marked}
 use Rattle.wasm_meaning.specs.State.{State, Store}
 use Rattle.wasm_meaning.specs.Fits.{Fits}
-use Rattle.wasm_meaning.specs.Stops.{Stop, Trap, Spent, Stuck}
 use Rattle.wasm_types.specs.declared.place.Loc.{Loc}
 use Rattle.wasm_meaning.specs.Equality.{EqAt}
 use Rattle.flow_domain.specs.Bounds.{Cover, Bounds, bounds}
 use Rattle.wasm_types.specs.Locations.{is_outer}
-use Rattle.wasm_meaning.specs.Effects.{Fixed}
-use Rattle.wasm_meaning.specs.Run.{Here, Outcome, Normal, Branch, Stopped, run}
 use Rattle.wasm_types.specs.declared.run.Event.{Event}
 use Rattle.wasm_types.specs.Funcs.{Func, func_of}
-use Rattle.wasm_meaning.specs.Invoke.{nested, Returns}
+use Rattle.wasm_meaning.specs.Invoke.{Returns}
 use Rattle.flow_domain.specs.Rows.{Output, Ret, Final, Done, IsInput, Dep}
 use Rattle.flow_laws.specs.Calls.{ModuleOk}
 
@@ -66,18 +62,3 @@ DoneSound =
     → (args args' : List Value) (s s' : State) → DifferOnly m F J args args' s s'
     → (i n : ℕ) (results : List Value) (final : State) (events : List Event) → Returns m f i args s n results final events
     → ReturnsAlike m f i args' s' n s final
-
--- all but that more turns nest than were allowed
-abbrev pub Known : Stop → Type 0
-Known (Trap reason) = Unit {0}
-Known Spent = ⊥
-Known Stuck = Unit {0}
-
-abbrev pub Lives : Outcome → Type 0
-Lives Normal = Unit {0}
-Lives (Branch l) = Unit {0}
-Lives (Stopped why) = Known why
-
--- an outcome that isn't for want of turns is the outcome with every greater number of them
-abbrev pub Longer : Type 0
-Longer = (Z : Fixed) (n k : ℕ) → n ≤ k → (ls : List ℕ) (code : Marked) (h : Here) → Lives (run Z (nested Z n) ls code h).outcome → run Z (nested Z k) ls code h ≡ run Z (nested Z n) ls code h
