@@ -2,3 +2,5 @@ pub mod Equal
 pub mod ActionLaws
 pub mod HostLaws
 pub mod Instructions
+pub mod Longer
+mod Examples

@@ -10,3 +10,4 @@ pub mod HostCalls
 pub mod Run
 pub mod Invoke
 pub mod Laws
+pub mod Longer
