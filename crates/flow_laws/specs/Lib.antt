@@ -1,0 +1,4 @@
+pub mod Calls
+pub mod Soundness
+pub mod Cutting
+pub mod Exact
