@@ -6,7 +6,6 @@ mod outcome;
 mod plain;
 mod read;
 mod scan;
-mod table;
 #[cfg(test)]
 mod tests;
 
