@@ -6,7 +6,6 @@ mod outcome;
 mod plain;
 mod read;
 mod scan;
-mod table;
 
 pub use expr::{CodeRefusal, read_expr};
 pub use outcome::Stop;

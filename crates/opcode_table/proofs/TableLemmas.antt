@@ -53,7 +53,7 @@ num-one v w e = let same : Num v ≡ Num w = sym (told (Num v) [] refl).0 ∙ ap
 
 pub read-back : {A : Type 0} (byte_of : A → ℕ) → ((v w : A) → byte_of v ≡ byte_of w → v ≡ w) → (v : A) (r : Option A) → ReadsBack byte_of (byte_of v) r → r ≡ Some v
 read-back byte_of one v None h = absurd (h v refl)
-read-back byte_of one v (Some w) h = ap Some (one w v h)
+read-back byte_of one v (Some w) h = ap Some (sym (one v w h))
 
 pub made-back : (i : Instr) (text : List ℕ) (r : Option Instr) → SpellsImmediates text (immediates i) → Makes (opcode i) (immediates i) r → r ≡ Some i
 made-back i text None p h = absurd (h i (refl, refl))

@@ -7,8 +7,8 @@ use Rattle.opcode_table.specs.declared.instructions.Following.TheVariants as kin
 
 -- what has the byte, or that nothing has
 abbrev pub ReadsBack : {A : Type 0} → (A → ℕ) → ℕ → Option A → Type 0
-ReadsBack {A} byte_of byte None = (v : A) → byte_of v ≢ byte
-ReadsBack byte_of byte (Some v) = byte_of v ≡ byte
+ReadsBack {A} byte_of byte None = (v : A) → byte ≢ byte_of v
+ReadsBack byte_of byte (Some v) = byte ≡ byte_of v
 
 -- the instruction has this opcode, and this follows
 abbrev pub IsMade : Instr → ℕ → Immediates → Type 0

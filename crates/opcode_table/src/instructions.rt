@@ -1,12 +1,20 @@
 //! Plain instructions by their opcodes, and what follows these (section 5.4).
 
-ghost use Rattle.std.specs.Prelude.{◌≡◌};
+ghost use Rattle.std.specs.Prelude.{◌≡◌, ℕ, List, Some};
+ghost use Rattle.wasm_types.specs.declared.instr.Instr.TheVariants.{BrTable};
 ghost use Rattle.wasm_types.specs.Plain.{float_plain, nothing, number, labels, signature, address, memory, signed_32, signed_64, raw_32, raw_64, bulk, opcode};
+ghost use Rattle.opcode_table.specs.declared.instructions.Following.TheVariants as kind;
 ghost use Rattle.opcode_table.specs.Table.{Follows, Makes};
 
 use crate::operations::{load_byte, load_op, num_byte, num_op, store_byte, store_op};
 use sqlite_items::Items;
 use wasm_types::{FloatInstr, Instr, MemArg};
+
+/// The number that tells `memory.copy` behind its opcode.
+pub const MEMORY_COPY: u32 = 10;
+
+/// The number that tells `memory.fill` behind its opcode.
+pub const MEMORY_FILL: u32 = 11;
 
 /// What follows an opcode: nothing, a number, labels, and so on.
 #[derive(Clone, Copy, Debug, PartialEq, Eq)]
@@ -34,7 +42,8 @@ pub enum Following {
 
 /// What follows an opcode: none where it is none of a plain instruction.
 pub fn what_follows(byte: u8) -> Option<Following>
-    ensures { Follows byte result }
+    ensures follows { Follows byte result }
+    ensures labels { result ≡ Some kind.Labels → (some : List ℕ) (other : ℕ) → opcode (BrTable some other) ≡ byte }
 {
     match byte {
         0x00..=0x01 | 0x0F | 0x1A..=0x1B | 0x45..=0xC4 => Some(Following::Nothing),
@@ -192,8 +201,8 @@ pub fn with_bulk(byte: u8, which: u32) -> Option<Instr>
     ensures { Makes byte (bulk which) result }
 {
     match (byte, which) {
-        (0xFC, 10) => Some(Instr::MemoryCopy),
-        (0xFC, 11) => Some(Instr::MemoryFill),
+        (0xFC, MEMORY_COPY) => Some(Instr::MemoryCopy),
+        (0xFC, MEMORY_FILL) => Some(Instr::MemoryFill),
         _ => None,
     }
 }

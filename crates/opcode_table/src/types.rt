@@ -66,14 +66,14 @@ pub fn type_byte(kind: ValType) -> u8
 }
 
 /// The block type of a byte (section 5.3.2).
-pub fn kind_of(byte: u8) -> Option<Option<ValType>>
+pub fn block_kind(byte: u8) -> Option<Option<ValType>>
     ensures { ReadsBack kind_code byte result }
 {
     kinds!(item_at, byte)
 }
 
 /// The byte of a block type.
-pub fn kind_byte(kind: Option<ValType>) -> u8
+pub fn block_byte(kind: Option<ValType>) -> u8
     ensures { result ≡ kind_code kind }
 {
     kinds!(byte_of, kind)

@@ -4,7 +4,6 @@
 mod code;
 mod items;
 mod module;
-mod opcodes;
 mod sections;
 mod text;
 

@@ -247,7 +247,7 @@ once_raw64 a b x y m n p q e =
     let high : p.1 ≡ q.1 = ap (λ (v : ℕ × ℕ). v.1) r.1 in
     (r.0, omega (arith, p.3, q.3, low, high))
 
-once_bulk : IsOnce SpellsBulk
+pub once_bulk : IsOnce SpellsBulk
 once_bulk a b x y m n p q e =
     let Zeros : List ℕ → ℕ → Type 0 = λ t k. t ≡ memories_of k in
     let r = once_then SpellsU32 Zeros a b x y m n m n once_u32 (λ c d same u v h. (u ∙ ap memories_of same ∙ sym v, same)) p q e in
