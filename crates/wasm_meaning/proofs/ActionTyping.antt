@@ -45,9 +45,11 @@ ActionTypes m types Fill t l = Takes (I32 ∷ I32 ∷ I32 ∷ []) [] t l
 abbrev pub TaskTypes : Module → List ValType → Task → List ValType → List ValType → Type 0
 TaskTypes m types NoTask t l = ⊥
 TaskTypes m types (Acts a) t l = ActionTypes m types a t l
-TaskTypes m types (Asks (Own f) n r) t l = (F : FuncType) × (type_of_func m f ≡ Some F) × (n ≡ length F.params) × (r ≡ length F.results) × Takes (reverse F.params) (reverse F.results) t l
+TaskTypes m types (Asks (Own f) n r) t l =
+    (F : FuncType) × (type_of_func m f ≡ Some F) × (n ≡ length F.params) × (r ≡ length F.results) × Takes (reverse F.params) (reverse F.results) t l
 TaskTypes m types (Asks (Through k j) n r) t l =
-    (F : FuncType) × (slice_get m.types k ≡ Some F) × (n ≡ suc (length F.params)) × (r ≡ length F.results) × Takes (I32 ∷ reverse F.params) (reverse F.results) t l
+    (F : FuncType) × (slice_get m.types k ≡ Some F) × (n ≡ suc (length F.params)) × (r ≡ length F.results) × Takes (I32 ∷ reverse F.params)
+    (reverse F.results) t l
 
 pub global_known : (gs : List GlobalType) (x : ℕ) (g : GlobalType) → slice_get gs x ≡ Some g → slice_get (map global_type gs) x ≡ Some g.kind
 global_known gs x g e = slice_get-map global_type gs x ∙ ap (option_map global_type) e
@@ -61,7 +63,8 @@ integer_load load.I32U16 = tt
 integer_load _ = tt
 
 -- one line an instruction
-pub task_types : (m : Module) (types result : List ValType) (op : Instr) (t l : List ValType) → ProperImmediates (immediates op) → Types (standing m types result) op t l → TaskTypes m types (task_of (callees m) op) t l
+pub task_types : (m : Module) (types result : List ValType) (op : Instr) (t l : List ValType) → ProperImmediates (immediates op)
+    → Types (standing m types result) op t l → TaskTypes m types (task_of (callees m) op) t l
 task_types m types result instr.Nop t l p h = h
 task_types m types result instr.Drop t l p h = h
 task_types m types result instr.Select t l p h = h

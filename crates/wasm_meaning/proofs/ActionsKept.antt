@@ -46,7 +46,8 @@ types_are : (ts us : List ValType) → same_types ts us ≡ true → ts ≡ us
 types_are [] [] e = refl
 types_are [] (u ∷ us) e = absurd (true≢false (sym e))
 types_are (t ∷ ts) [] e = absurd (true≢false (sym e))
-types_are (t ∷ ts) (u ∷ us) e = let h = and_true (type_byte t == type_byte u) (same_types ts us) e in ap (λ x. x ∷ ts) (byte_is t u h.0) ∙ ap (λ xs. u ∷ xs) (types_are ts us h.1)
+types_are (t ∷ ts) (u ∷ us) e =
+    let h = and_true (type_byte t == type_byte u) (same_types ts us) e in ap (λ x. x ∷ ts) (byte_is t u h.0) ∙ ap (λ xs. u ∷ xs) (types_are ts us h.1)
 
 pub low_type_is : (op : LowOp) → type_of_width (low_width op) ≡ low_type op
 low_type_is low.I32S8 = refl
@@ -75,22 +76,32 @@ module _ (m : Module) (z : State) (types : List ValType) where
   if_kept true l x y f g = f refl
   if_kept false l x y f g = g
 
-  local_set_kept : (s : Store) (k : ℕ) (t : ValType) (v : Value) → StoreKept m z types s → slice_get types k ≡ Some t → HasType v t → StoreKept m z types (set_local k v s)
+  local_set_kept : (s : Store) (k : ℕ) (t : ValType) (v : Value) → StoreKept m z types s → slice_get types k ≡ Some t → HasType v t
+      → StoreKept m z types (set_local k v s)
   local_set_kept s k t v h e g = record { locals = have_set s.locals types k t v h.locals e g; state = h.state }
 
-  global_set_kept : (s : Store) (k : ℕ) (t : ValType) (v : Value) → StoreKept m z types s → slice_get (map global_type (globals_of m)) k ≡ Some t → HasType v t → StoreKept m z types (set_global k v s)
+  global_set_kept : (s : Store) (k : ℕ) (t : ValType) (v : Value) → StoreKept m z types s → slice_get (map global_type (globals_of m)) k ≡ Some t
+      → HasType v t → StoreKept m z types (set_global k v s)
   global_set_kept s k t v h e g =
       let s' = (set_global k v s).state in
       let f = h.state.fits in
       record {
         locals = h.locals;
-        state = kept_by m z s.state s' h.state (fits_by m z s.state s' f (have_set s.state.globals (map global_type (globals_of m)) k t v f.globals e g) refl f.bytes refl refl refl) refl refl refl refl refl;
+        state =
+            kept_by m z s.state s' h.state
+            (fits_by m z s.state s' f
+            (have_set s.state.globals (map global_type (globals_of m)) k t v f.globals e g) refl f.bytes refl refl refl) refl refl refl refl refl;
       }
 
-  bytes_kept : (s : Store) (bytes : List ℕ) → StoreKept m z types s → length bytes ≡ length s.state.bytes → AreBytes bytes → StoreKept m z types (with_bytes bytes s)
+  bytes_kept : (s : Store) (bytes : List ℕ) → StoreKept m z types s → length bytes ≡ length s.state.bytes → AreBytes bytes
+      → StoreKept m z types (with_bytes bytes s)
   bytes_kept s bytes h e g =
       let s' = (with_bytes bytes s).state in
-      record { locals = h.locals; state = kept_by m z s.state s' h.state (fits_by m z s.state s' h.state.fits h.state.fits.globals e g refl refl refl) refl refl refl refl refl }
+      record {
+        locals = h.locals;
+        state = kept_by m z s.state s' h.state
+            (fits_by m z s.state s' h.state.fits h.state.fits.globals e g refl refl refl) refl refl refl refl refl;
+      }
 
   -- what lies within the memory is there
   there : (at count : ℕ) (s : Store) → StoreKept m z types s → is_within at count (memory_length s.state) ≡ true → at + count ≤ length s.state.bytes
@@ -99,7 +110,11 @@ module _ (m : Module) (z : State) (types : List ValType) where
   write_kept : (at : ℕ) (these : List ℕ) (s : Store) → StoreKept m z types s → AreBytes these → Kept [] (write at these s)
   write_kept at these s k h =
       if_kept (is_within at (length these) (memory_length s.state)) [] (gives [] (with_bytes (written at these s.state.bytes) s)) (traps MemoryBounds s)
-      (λ e. (tt, bytes_kept s (written at these s.state.bytes) k (written_long at these s.state.bytes (there at (length these) s k e)) (written_bytes at these s.state.bytes h k.state.fits.bytes)))
+      (λ e. (
+        tt,
+        bytes_kept s (written at these s.state.bytes) k (written_long at these s.state.bytes (there at (length these) s k e))
+            (written_bytes at these s.state.bytes h k.state.fits.bytes),
+      ))
       (tt, k.state)
 
   read_kept : (access : Access) (sg : Bool) (at : ℕ) (s : Store) → IsInteger access.kind → StoreKept m z types s → Kept (access.kind ∷ []) (read access sg at s)
@@ -113,11 +128,15 @@ module _ (m : Module) (z : State) (types : List ValType) where
   copy_kept to from count s k =
       let bytes = s.state.bytes in
       let these = bytes_at from count bytes in
-      if_kept (is_within from count (memory_length s.state) && is_within to count (memory_length s.state)) [] (gives [] (with_bytes (written to these bytes) s)) (traps MemoryBounds s)
+      if_kept (is_within from count (memory_length s.state) && is_within to count (memory_length s.state)) []
+      (gives [] (with_bytes (written to these bytes) s)) (traps MemoryBounds s)
       (λ e.
       let h = and_true (is_within from count (memory_length s.state)) (is_within to count (memory_length s.state)) e in
-      let le : to + length these ≤ length bytes = subst (λ x. to + x ≤ length bytes) (sym (bytes_at_long from count bytes)) (there to count s k h.1) in
-      (tt, bytes_kept s (written to these bytes) k (written_long to these bytes le) (written_bytes to these bytes (bytes_at_fit from count bytes k.state.fits.bytes) k.state.fits.bytes)))
+      let le : to + length these ≤ length bytes = subst (λ x. to + x ≤ length bytes) (sym (bytes_at_long from count bytes)) (there to count s k h.1) in (
+        tt,
+        bytes_kept s (written to these bytes) k (written_long to these bytes le)
+            (written_bytes to these bytes (bytes_at_fit from count bytes k.state.fits.bytes) k.state.fits.bytes),
+      ))
       (tt, k.state)
 
   grown_kept : (n : ℕ) (s : Store) → StoreKept m z types s → s.state.pages + n ≤ most_of (mems_of m) z.cap → StoreKept m z types (grown n s)
@@ -145,7 +164,8 @@ module _ (m : Module) (z : State) (types : List ValType) where
   grow_kept : (n : ℕ) (s : Store) → StoreKept m z types s → Kept (type.I32 ∷ []) (grow Z.cap n s)
   grow_kept n s k =
       let p = k.state.fits.pages in
-      if_kept (nat_le (s.state.pages + n) (most_of (mems_of m) z.cap)) (type.I32 ∷ []) (gives (value.I32 s.state.pages ∷ []) (grown n s)) (gives (value.I32 4294967295 ∷ []) s)
+      if_kept (nat_le (s.state.pages + n) (most_of (mems_of m) z.cap)) (type.I32 ∷ []) (gives (value.I32 s.state.pages ∷ []) (grown n s))
+      (gives (value.I32 4294967295 ∷ []) s)
       (λ e. (((refl, omega arith), tt), grown_kept n s k (leb-true (s.state.pages + n) (most_of (mems_of m) z.cap) e)))
       (((refl, omega arith), tt), k)
 
@@ -156,30 +176,41 @@ module _ (m : Module) (z : State) (types : List ValType) where
   made_kept t i (Traps reason) s k = (tt, k.state)
 
   -- with the types that are taken and left in place
-  from_types : (a : Action) (s : Store) (vs : List Value) (t l t' l' : List ValType) → Takes t' l' t l → HaveTypes vs t → (HaveTypes vs t' → Does a l' s vs) → Does a l s vs
+  from_types : (a : Action) (s : Store) (vs : List Value) (t l t' l' : List ValType) → Takes t' l' t l → HaveTypes vs t → (HaveTypes vs t' → Does a l' s vs)
+      → Does a l s vs
   from_types a s vs t l t' l' h g f = subst (λ x. Does a x s vs) (sym h.1) (f (subst (HaveTypes vs) h.0 g))
 
-  number_does : (op : NumOp) (t l : List ValType) → TypesNum op t l → (vs : List Value) → HaveTypes vs t → (s : Store) → StoreKept m z types s → Does (Number op) l s vs
+  number_does : (op : NumOp) (t l : List ValType) → TypesNum op t l → (vs : List Value) → HaveTypes vs t → (s : Store) → StoreKept m z types s
+      → Does (Number op) l s vs
   number_does (num.Eqz w) t l h vs g s k =
-      from_types (Number (num.Eqz w)) s vs t l (type_of_width w ∷ []) (type.I32 ∷ []) h g (λ g. one_case (Does (Number (num.Eqz w)) (type.I32 ∷ []) s) vs (type_of_width w) g
+      from_types (Number (num.Eqz w)) s vs t l (type_of_width w ∷ []) (type.I32 ∷ []) h g
+      (λ g. one_case (Does (Number (num.Eqz w)) (type.I32 ∷ []) s) vs (type_of_width w) g
       (λ a ha. made_kept type.I32 tt (Makes (truth (number_of a == 0))) s k))
   number_does (num.Rel w op) t l h vs g s k =
-      from_types (Number (num.Rel w op)) s vs t l (type_of_width w ∷ type_of_width w ∷ []) (type.I32 ∷ []) h g (λ g. two_case (Does (Number (num.Rel w op)) (type.I32 ∷ []) s) vs (type_of_width w) (type_of_width w) g
+      from_types (Number (num.Rel w op)) s vs t l (type_of_width w ∷ type_of_width w ∷ []) (type.I32 ∷ []) h g
+      (λ g. two_case (Does (Number (num.Rel w op)) (type.I32 ∷ []) s) vs (type_of_width w) (type_of_width w) g
       (λ b a hb ha. made_kept type.I32 tt (Makes (truth (related w op (number_of a) (number_of b)))) s k))
   number_does (num.Un w op) t l h vs g s k =
-      from_types (Number (num.Un w op)) s vs t l (type_of_width w ∷ []) (type_of_width w ∷ []) h g (λ g. one_case (Does (Number (num.Un w op)) (type_of_width w ∷ []) s) vs (type_of_width w) g
+      from_types (Number (num.Un w op)) s vs t l (type_of_width w ∷ []) (type_of_width w ∷ []) h g
+      (λ g. one_case (Does (Number (num.Un w op)) (type_of_width w ∷ []) s) vs (type_of_width w) g
       (λ a ha. made_kept (type_of_width w) (integer_width w) (Makes (unary w op (number_of a))) s k))
   number_does (num.Bin w op) t l h vs g s k =
-      from_types (Number (num.Bin w op)) s vs t l (type_of_width w ∷ type_of_width w ∷ []) (type_of_width w ∷ []) h g (λ g. two_case (Does (Number (num.Bin w op)) (type_of_width w ∷ []) s) vs (type_of_width w) (type_of_width w) g
+      from_types (Number (num.Bin w op)) s vs t l (type_of_width w ∷ type_of_width w ∷ []) (type_of_width w ∷ []) h g
+      (λ g. two_case (Does (Number (num.Bin w op)) (type_of_width w ∷ []) s) vs (type_of_width w) (type_of_width w) g
       (λ b a hb ha. made_kept (type_of_width w) (integer_width w) (binary w op (number_of a) (number_of b)) s k))
   number_does num.Wrap t l h vs g s k =
-      from_types (Number num.Wrap) s vs t l (type.I64 ∷ []) (type.I32 ∷ []) h g (λ g. one_case (Does (Number num.Wrap) (type.I32 ∷ []) s) vs type.I64 g (λ a ha. made_kept type.I32 tt (Makes (number_of a)) s k))
+      from_types (Number num.Wrap) s vs t l (type.I64 ∷ []) (type.I32 ∷ []) h g
+      (λ g. one_case (Does (Number num.Wrap) (type.I32 ∷ []) s) vs type.I64 g (λ a ha. made_kept type.I32 tt (Makes (number_of a)) s k))
   number_does num.ExtendS t l h vs g s k =
-      from_types (Number num.ExtendS) s vs t l (type.I32 ∷ []) (type.I64 ∷ []) h g (λ g. one_case (Does (Number num.ExtendS) (type.I64 ∷ []) s) vs type.I32 g (λ a ha. made_kept type.I64 tt (Makes (unsigned W64 (signed W32 (number_of a)))) s k))
+      from_types (Number num.ExtendS) s vs t l (type.I32 ∷ []) (type.I64 ∷ []) h g
+      (λ g. one_case (Does (Number num.ExtendS) (type.I64 ∷ []) s) vs type.I32 g
+      (λ a ha. made_kept type.I64 tt (Makes (unsigned W64 (signed W32 (number_of a)))) s k))
   number_does num.ExtendU t l h vs g s k =
-      from_types (Number num.ExtendU) s vs t l (type.I32 ∷ []) (type.I64 ∷ []) h g (λ g. one_case (Does (Number num.ExtendU) (type.I64 ∷ []) s) vs type.I32 g (λ a ha. made_kept type.I64 tt (Makes (number_of a)) s k))
+      from_types (Number num.ExtendU) s vs t l (type.I32 ∷ []) (type.I64 ∷ []) h g
+      (λ g. one_case (Does (Number num.ExtendU) (type.I64 ∷ []) s) vs type.I32 g (λ a ha. made_kept type.I64 tt (Makes (number_of a)) s k))
   number_does (num.Low op) t l h vs g s k =
-      from_types (Number (num.Low op)) s vs t l (low_type op ∷ []) (low_type op ∷ []) h g (λ g. one_case (Does (Number (num.Low op)) (low_type op ∷ []) s) vs (low_type op) g
+      from_types (Number (num.Low op)) s vs t l (low_type op ∷ []) (low_type op ∷ []) h g
+      (λ g. one_case (Does (Number (num.Low op)) (low_type op ∷ []) s) vs (low_type op) g
       (λ a ha. subst (λ u. Kept (u ∷ []) (made_by (type_of_width (low_width op)) (Some (Makes (extend_low op (number_of a)))) s)) (low_type_is op)
       (made_kept (type_of_width (low_width op)) (integer_width (low_width op)) (Makes (extend_low op (number_of a))) s k)))
 
@@ -189,7 +220,8 @@ module _ (m : Module) (z : State) (types : List ValType) where
 
   -- ---- calls
 
-  typed_kept : (c : Calls) → CallsKept m z c → (F : FuncType) (f : ℕ) (o : Option FuncType) → type_of_func m f ≡ o → (vs : List Value) (s : Store) → HaveTypes vs (reverse F.params) → StoreKept m z types s
+  typed_kept : (c : Calls) → CallsKept m z c → (F : FuncType) (f : ℕ) (o : Option FuncType) → type_of_func m f ≡ o → (vs : List Value) (s : Store)
+      → HaveTypes vs (reverse F.params) → StoreKept m z types s
       → Kept (reverse F.results) (call_found c (found_by f o (Some F)) vs s)
   typed_kept c ck F f None is vs s h k = (tt, k.state)
   typed_kept c ck F f (Some G) is vs s h k = go (same_type G F) refl
@@ -198,55 +230,72 @@ module _ (m : Module) (z : State) (types : List ValType) where
       go false e = (tt, k.state)
       go true e =
           let q = and_true (same_types G.params F.params) (same_types G.results F.results) e in
-          subst (λ x. Kept (reverse x) (c f vs s)) (types_are G.results F.results q.1) (ck f G is vs types s (subst (λ x. HaveTypes vs (reverse x)) (sym (types_are G.params F.params q.0)) h) k)
+          subst (λ x. Kept (reverse x) (c f vs s)) (types_are G.results F.results q.1)
+          (ck f G is vs types s (subst (λ x. HaveTypes vs (reverse x)) (sym (types_are G.params F.params q.0)) h) k)
 
-  found_kept : (c : Calls) → CallsKept m z c → (F : FuncType) (k : ℕ) → slice_get m.types k ≡ Some F → (e : Option (Option ℕ)) (vs : List Value) (s : Store) → HaveTypes vs (reverse F.params) → StoreKept m z types s
+  found_kept : (c : Calls) → CallsKept m z c → (F : FuncType) (k : ℕ) → slice_get m.types k ≡ Some F → (e : Option (Option ℕ)) (vs : List Value) (s : Store)
+      → HaveTypes vs (reverse F.params) → StoreKept m z types s
       → Kept (reverse F.results) (call_found c (found_at (callees m) k e) vs s)
   found_kept c ck F n is None vs s h k = (tt, k.state)
   found_kept c ck F n is (Some None) vs s h k = (tt, k.state)
   found_kept c ck F n is (Some (Some f)) vs s h k =
-      subst (λ (o : Option FuncType). Kept (reverse F.results) (call_found c (found_by f (type_of_func m f) o) vs s)) (sym is) (typed_kept c ck F f (type_of_func m f) refl vs s h k)
+      subst (λ (o : Option FuncType). Kept (reverse F.results) (call_found c (found_by f (type_of_func m f) o) vs s)) (sym is)
+      (typed_kept c ck F f (type_of_func m f) refl vs s h k)
 
   on_true : (b : Bool) (x y : Answer) → b ≡ true → (if b then x else y) ≡ x
   on_true b x y e = rw e refl
 
   -- with as many operands as it takes
-  asked_kept : (l : List ValType) (vs : List Value) (n : ℕ) (a : Answer) (s : Store) → length vs ≡ n → Kept l a → Kept l (if nat_eq (length vs) n then a else Stops Stuck s.state)
+  asked_kept : (l : List ValType) (vs : List Value) (n : ℕ) (a : Answer) (s : Store) → length vs ≡ n → Kept l a
+      → Kept l (if nat_eq (length vs) n then a else Stops Stuck s.state)
   asked_kept l vs n a s e k = subst (Kept l) (sym (on_true (nat_eq (length vs) n) a (Stops Stuck s.state) (eq-eqb (length vs) n e))) k
 
   -- ---- each action
 
-  pub does : (a : Action) (t l : List ValType) → ActionTypes m types a t l → (vs : List Value) → HaveTypes vs t → (s : Store) → StoreKept m z types s → Does a l s vs
+  pub does : (a : Action) (t l : List ValType) → ActionTypes m types a t l → (vs : List Value) → HaveTypes vs t → (s : Store) → StoreKept m z types s
+      → Does a l s vs
   does Nothing t l h vs g s k = from_types Nothing s vs t l [] [] h g (λ g. none_case (Does Nothing [] s) vs g (tt, k))
   does (Const v) t l (u, hv, h) vs g s k = from_types (Const v) s vs t l [] (u ∷ []) h g (λ g. none_case (Does (Const v) (u ∷ []) s) vs g ((hv, tt), k))
   does (Number op) t l h vs g s k = number_does op t l h vs g s k
   does Discard t l (u, h) vs g s k = from_types Discard s vs t l (u ∷ []) [] h g (λ g. one_case (Does Discard [] s) vs u g (λ v hv. (tt, k)))
   does Choose t l (u, h) vs g s k =
-      from_types Choose s vs t l (type.I32 ∷ u ∷ u ∷ []) (u ∷ []) h g (λ g. three_case (Does Choose (u ∷ []) s) vs type.I32 u u g (λ n b a hn hb ha. ((chosen_fits u (number_of n) a b ha hb, tt), k)))
+      from_types Choose s vs t l (type.I32 ∷ u ∷ u ∷ []) (u ∷ []) h g
+      (λ g. three_case (Does Choose (u ∷ []) s) vs type.I32 u u g (λ n b a hn hb ha. ((chosen_fits u (number_of n) a b ha hb, tt), k)))
   does (Get x) t l (u, at, h) vs g s k =
-      from_types (Get x) s vs t l [] (u ∷ []) h g (λ g. none_case (Does (Get x) (u ∷ []) s) vs g ((have_at s.locals types x u (value.I32 0) k.locals at, tt), k))
+      from_types (Get x) s vs t l [] (u ∷ []) h g
+      (λ g. none_case (Does (Get x) (u ∷ []) s) vs g ((have_at s.locals types x u (value.I32 0) k.locals at, tt), k))
   does (Set x) t l (u, at, h) vs g s k =
       from_types (Set x) s vs t l (u ∷ []) [] h g (λ g. one_case (Does (Set x) [] s) vs u g (λ v hv. (tt, local_set_kept s x u v k at hv)))
   does (Tee x) t l (u, at, h) vs g s k =
       from_types (Tee x) s vs t l (u ∷ []) (u ∷ []) h g (λ g. one_case (Does (Tee x) (u ∷ []) s) vs u g (λ v hv. ((hv, tt), local_set_kept s x u v k at hv)))
   does (GetGlobal x) t l (u, at, h) vs g s k =
-      from_types (GetGlobal x) s vs t l [] (u ∷ []) h g (λ g. none_case (Does (GetGlobal x) (u ∷ []) s) vs g ((have_at s.state.globals (map global_type (globals_of m)) x u (value.I32 0) k.state.fits.globals at, tt), k))
+      from_types (GetGlobal x) s vs t l [] (u ∷ []) h g
+      (λ g. none_case (Does (GetGlobal x) (u ∷ []) s) vs g
+      ((have_at s.state.globals (map global_type (globals_of m)) x u (value.I32 0) k.state.fits.globals at, tt), k))
   does (SetGlobal x) t l (u, at, h) vs g s k =
       from_types (SetGlobal x) s vs t l (u ∷ []) [] h g (λ g. one_case (Does (SetGlobal x) [] s) vs u g (λ v hv. (tt, global_set_kept s x u v k at hv)))
   does (Read access sg) t l (i, h) vs g s k =
-      from_types (Read access sg) s vs t l (type.I32 ∷ []) (access.kind ∷ []) h g (λ g. one_case (Does (Read access sg) (access.kind ∷ []) s) vs type.I32 g (λ a ha. read_kept access sg (number_of a + access.offset) s i k))
+      from_types (Read access sg) s vs t l (type.I32 ∷ []) (access.kind ∷ []) h g
+      (λ g. one_case (Does (Read access sg) (access.kind ∷ []) s) vs type.I32 g (λ a ha. read_kept access sg (number_of a + access.offset) s i k))
   does (Write access) t l h vs g s k =
       from_types (Write access) s vs t l (access.kind ∷ type.I32 ∷ []) [] h g (λ g. two_case (Does (Write access) [] s) vs access.kind type.I32 g
       (λ v a hv ha. write_kept (number_of a + access.offset) (bytes_of access.count (number_of v)) s k (bytes_of_fit access.count (number_of v))))
-  does Pages t l h vs g s k = let p = k.state.fits.pages in from_types Pages s vs t l [] (type.I32 ∷ []) h g (λ g. none_case (Does Pages (type.I32 ∷ []) s) vs g (((refl, omega arith), tt), k))
-  does Grow t l h vs g s k = from_types Grow s vs t l (type.I32 ∷ []) (type.I32 ∷ []) h g (λ g. one_case (Does Grow (type.I32 ∷ []) s) vs type.I32 g (λ n hn. grow_kept (number_of n) s k))
+  does Pages t l h vs g s k =
+      let p = k.state.fits.pages in
+      from_types Pages s vs t l [] (type.I32 ∷ []) h g (λ g. none_case (Does Pages (type.I32 ∷ []) s) vs g (((refl, omega arith), tt), k))
+  does Grow t l h vs g s k =
+      from_types Grow s vs t l (type.I32 ∷ []) (type.I32 ∷ []) h g
+      (λ g. one_case (Does Grow (type.I32 ∷ []) s) vs type.I32 g (λ n hn. grow_kept (number_of n) s k))
   does Copy t l h vs g s k =
-      from_types Copy s vs t l (type.I32 ∷ type.I32 ∷ type.I32 ∷ []) [] h g (λ g. three_case (Does Copy [] s) vs type.I32 type.I32 type.I32 g (λ n from to hn hf ht. copy_kept (number_of to) (number_of from) (number_of n) s k))
+      from_types Copy s vs t l (type.I32 ∷ type.I32 ∷ type.I32 ∷ []) [] h g
+      (λ g. three_case (Does Copy [] s) vs type.I32 type.I32 type.I32 g (λ n from to hn hf ht. copy_kept (number_of to) (number_of from) (number_of n) s k))
   does Fill t l h vs g s k =
       from_types Fill s vs t l (type.I32 ∷ type.I32 ∷ type.I32 ∷ []) [] h g (λ g. three_case (Does Fill [] s) vs type.I32 type.I32 type.I32 g
-      (λ n v to hn hv ht. write_kept (number_of to) (replicate (number_of n) (number_of v % 256)) s k (All-replicate IsByte (number_of n) (number_of v % 256) (byte_of (number_of v)))))
+      (λ n v to hn hv ht. write_kept (number_of to) (replicate (number_of n) (number_of v % 256)) s k
+      (All-replicate IsByte (number_of n) (number_of v % 256) (byte_of (number_of v)))))
 
-  pub task_kept : (c : Calls) → CallsKept m z c → (task : Task) (t l : List ValType) → TaskTypes m types task t l → (vs : List Value) → HaveTypes vs t → (s : Store) → StoreKept m z types s → Kept l (do_task Z c task vs s)
+  pub task_kept : (c : Calls) → CallsKept m z c → (task : Task) (t l : List ValType) → TaskTypes m types task t l → (vs : List Value) → HaveTypes vs t
+      → (s : Store) → StoreKept m z types s → Kept l (do_task Z c task vs s)
   task_kept c ck NoTask t l h vs g s k = absurd h
   task_kept c ck (Acts a) t l h vs g s k = does a t l h vs g s k
   task_kept c ck (Asks (Own f) n r) t l (F, at, takes, leaves, h) vs g s k =
@@ -257,9 +306,14 @@ module _ (m : Module) (z : State) (types : List ValType) where
       let g' = subst (HaveTypes vs) h.0 g in
       let long : length vs ≡ n = have_length vs (type.I32 ∷ reverse F.params) g' ∙ ap suc (length-reverse F.params) ∙ sym takes in
       asked_kept l vs n (perform Z c (Through i j) vs s) s long (subst (λ x. Kept x (perform Z c (Through i j) vs s)) (sym h.1)
-      (top_case (λ x. Kept (reverse F.results) (perform Z c (Through i j) x s)) vs type.I32 (reverse F.params) g' (λ v ws hv hw. found_kept c ck F i at (slice_get z.table (number_of v)) ws s hw k)))
+      (top_case (λ x. Kept (reverse F.results) (perform Z c (Through i j) x s)) vs type.I32 (reverse F.params) g'
+      (λ v ws hv hw. found_kept c ck F i at (slice_get z.table (number_of v)) ws s hw k)))
 
 pub instructions_keep_types : InstructionsKeepTypes
 instructions_keep_types m z c ck types result op t l p ty =
-    let a = task_types m types result op t l p ty in
-    (task_takes m types (task_of (callees m) op) t l a, task_leaves m types (task_of (callees m) op) t l a, λ vs h s k. task_kept m z types c ck (task_of (callees m) op) t l a vs h s k)
+    let a = task_types m types result op t l p ty in (
+      task_takes m types (task_of (callees m) op) t l a,
+      task_leaves m types (task_of (callees m) op) t l a,
+      λ vs h s k. task_kept m z types c ck
+          (task_of (callees m) op) t l a vs h s k,
+    )

@@ -24,10 +24,6 @@ pub bytes_of_fit : (k n : ℕ) → AreBytes (bytes_of k n)
 bytes_of_fit zero n = All-nil IsByte
 bytes_of_fit (suc k) n = All-cons IsByte _ _ (byte_of n) (bytes_of_fit k _)
 
-pub length_bytes_of : (k n : ℕ) → length (bytes_of k n) ≡ k
-length_bytes_of zero n = refl
-length_bytes_of (suc k) n = ap suc (length_bytes_of k _)
-
 put_long : (k b : ℕ) (bytes : List ℕ) → k < length bytes → length (put 0 k b bytes) ≡ length bytes
 put_long k b [] lt = absurd (omega arith)
 put_long zero b (x ∷ bytes) lt = refl
@@ -47,7 +43,8 @@ written_long at (b ∷ these) bytes le =
 
 pub written_bytes : (at : ℕ) (these bytes : List ℕ) → AreBytes these → AreBytes bytes → AreBytes (written at these bytes)
 written_bytes at [] bytes h g = g
-written_bytes at (b ∷ these) bytes h g = written_bytes (at + 1) these (put 0 at b bytes) (All-tail IsByte b these h) (put_bytes at b bytes (All-head IsByte b these h) g)
+written_bytes at (b ∷ these) bytes h g =
+    written_bytes (at + 1) these (put 0 at b bytes) (All-tail IsByte b these h) (put_bytes at b bytes (All-head IsByte b these h) g)
 
 pub within_le : (at count long : ℕ) → is_within at count long ≡ true → at + count ≤ long
 within_le at count long e = leb-true (at + count) long e

@@ -52,7 +52,8 @@ picked false x t e = absurd (none (some_same e))
     none : {A : Type 0} {y : A} → None ≡ Some y → ⊥
     none e = cc
 
-seen_type : (m : Module) (k : ℕ) (gs : List GlobalType) (g : ℕ) (t : ValType) → slice_get (seen_from m k gs) g ≡ Some (Some t) → slice_get (map global_type gs) g ≡ Some t
+seen_type : (m : Module) (k : ℕ) (gs : List GlobalType) (g : ℕ) (t : ValType) → slice_get (seen_from m k gs) g ≡ Some (Some t)
+    → slice_get (map global_type gs) g ≡ Some t
 seen_type m k [] g t e = absurd cc
 seen_type m k (x ∷ gs) zero t e = ap Some (picked (global_visible m k x) x.kind t e)
 seen_type m k (x ∷ gs) (suc g) t e = seen_type m (k + 1) gs g t e
@@ -76,7 +77,8 @@ globals_fit seen ts s (w ∷ ws) gs e h =
 
 -- ---- bytes
 
-bytes_after_fit : (visible : Bool) (long : ℕ) (ws : List (ℕ × List ℕ)) (bs : List ℕ) → list_all (bytes_fit visible long) ws ≡ true → length bs ≡ long → AreBytes bs
+bytes_after_fit : (visible : Bool) (long : ℕ) (ws : List (ℕ × List ℕ)) (bs : List ℕ) → list_all (bytes_fit visible long) ws ≡ true → length bs ≡ long
+    → AreBytes bs
     → (length (bytes_after ws bs) ≡ long) × AreBytes (bytes_after ws bs)
 bytes_after_fit visible long [] bs e l h = (l, h)
 bytes_after_fit visible long (w ∷ ws) bs e l h =
@@ -94,23 +96,29 @@ host_func m f F = record { import = f; kind = F; globals = seen_from m 0 (global
 
 module _ (m : Module) (z : State) where
   replied_kept : (f : ℕ) (F : FuncType) (r : Reply) (s : State) → StateKept m z s
-      → list_all (λ w. global_fits (slice_get (seen_from m 0 (globals_of m)) w.0) w.1) r.globals ≡ true → list_all (bytes_fit (memory_visible m) (memory_length s)) r.bytes ≡ true
+      → list_all (λ w. global_fits (slice_get (seen_from m 0 (globals_of m)) w.0) w.1) r.globals ≡ true
+      → list_all (bytes_fit (memory_visible m) (memory_length s)) r.bytes ≡ true
       → StateKept m z (replied (host_func m f F) r s)
   replied_kept f F r s k g b =
       let a = bytes_after_fit (memory_visible m) (memory_length s) r.bytes s.bytes b k.fits.long k.fits.bytes in
       let s' = replied (host_func m f F) r s in
-      kept_by m z s s' k (fits_by m z s s' k.fits (globals_fit (seen_from m 0 (globals_of m)) (map global_type (globals_of m)) (λ g t e. seen_type m 0 (globals_of m) g t e) r.globals s.globals g k.fits.globals)
+      kept_by m z s s' k
+      (fits_by m z s s' k.fits
+      (globals_fit (seen_from m 0 (globals_of m)) (map global_type (globals_of m))
+      (λ g t e. seen_type m 0 (globals_of m) g t e) r.globals s.globals g k.fits.globals)
       (a.0 ∙ sym k.fits.long) a.1 refl refl refl) refl refl refl refl refl
 
   -- by whether the reply fits
-  fit_kept : (b : Bool) (types : List ValType) (f : ℕ) (F : FuncType) (r : Reply) (vs : List Value) (s : Store) → reply_fits (host_func m f F) (memory_length s.state) r ≡ b → StoreKept m z types s
+  fit_kept : (b : Bool) (types : List ValType) (f : ℕ) (F : FuncType) (r : Reply) (vs : List Value) (s : Store)
+      → reply_fits (host_func m f F) (memory_length s.state) r ≡ b → StoreKept m z types s
       → AnswerKept m z types (reverse F.results) (answered (host_func m f F) vs s (Some r))
   fit_kept false types f F r vs s e k = rw e (tt, told_kept m z (asked (host_func m f F) vs s.state) s.state k.state)
   fit_kept true types f F r vs s e k =
       let a = and_true (result_fits F.results r.result) _ e in
       let b = and_true (list_all (λ w. global_fits (slice_get (seen_from m 0 (globals_of m)) w.0) w.1) r.globals) _ a.1 in
       let c = told (asked (host_func m f F) vs s.state) s.state in
-      let h = subst (HaveTypes (host_results F.results r.result)) (sym (reverse_few F.results (few_results F.results r.result a.0))) (results_fit F.results r.result a.0) in
+      let h = subst (HaveTypes (host_results F.results r.result)) (sym (reverse_few F.results (few_results F.results r.result a.0)))
+      (results_fit F.results r.result a.0) in
       rw e (h, record { locals = k.locals; state = replied_kept f F r c (told_kept m z (asked (host_func m f F) vs s.state) s.state k.state) b.0 b.1 })
 
   answered_kept : (types : List ValType) (f : ℕ) (F : FuncType) (o : Option Reply) (vs : List Value) (s : Store) → StoreKept m z types s
@@ -118,5 +126,6 @@ module _ (m : Module) (z : State) where
   answered_kept types f F None vs s k = (tt, k.state)
   answered_kept types f F (Some r) vs s k = fit_kept (reply_fits (host_func m f F) (memory_length s.state) r) types f F r vs s refl k
 
-  pub host_kept : (types : List ValType) (f : ℕ) (F : FuncType) (vs : List Value) (s : Store) → StoreKept m z types s → AnswerKept m z types (reverse F.results) (call_host (host_func m f F) vs s)
+  pub host_kept : (types : List ValType) (f : ℕ) (F : FuncType) (vs : List Value) (s : Store) → StoreKept m z types s
+      → AnswerKept m z types (reverse F.results) (call_host (host_func m f F) vs s)
   host_kept types f F vs s k = answered_kept types f F (reply_of s.state.host s.state.host_calls (asked (host_func m f F) vs s.state)) vs s k

@@ -15,3 +15,4 @@ pub mod Sequences
 pub mod OwnCalls
 pub mod Started
 mod Examples
+mod Witness

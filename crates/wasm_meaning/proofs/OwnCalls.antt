@@ -1,5 +1,5 @@
 -- Calls keep types at every number of turns that may nest.
-use Rattle.std.proofs.Common.{◌≡◌, ℕ, zero, suc, ◌-◌, ◌<◌, ◌≤◌, List, [], ◌∷◌, map, reverse, replicate, Bool, true, false, if◌then◌else◌, nat_lt, Option, Some, None, IfSome, length, slice_get, All, refl, sym, ap, ap₂, ◌∙◌, subst, arith, ltb-false, lt-ltb, le-ltb, length-append, nat_eq}
+use Rattle.std.proofs.Common.{◌≡◌, ℕ, zero, suc, ◌-◌, ◌<◌, ◌≤◌, List, [], ◌∷◌, map, reverse, replicate, Bool, true, false, if◌then◌else◌, nat_lt, Option, Some, None, length, slice_get, All, refl, sym, ap, ap₂, ◌∙◌, subst, arith, ltb-false, lt-ltb, le-ltb, length-append, nat_eq}
 use Rattle.std.proofs.lemmas.List.Elements.{All-nil, All-append, All-replicate, All-head, All-tail}
 use Rattle.std.proofs.lemmas.List.{reverse-reverse}
 use Rattle.std.proofs.lemmas.Option.{slice_get_within, get_or_from_slice_get}
@@ -26,17 +26,13 @@ use Rattle.wasm_meaning.specs.HostCalls.{call_host}
 use Rattle.wasm_meaning.specs.Invoke.{zero_value, entered, activation, returned, call_own, call_by, calls, nested, seen_in, invoked_own, invoked_by, alone, invocation, Ending, Returned, Trapped, EndsAs}
 use Rattle.wasm_meaning.specs.Kept.{standing, StateKept, StoreKept, EndKept, RunKept, AnswerKept, CallsKept, EndingKept, SequencesKeepTypes, CallsKeepTypes, InvocationsKeepTypes, EndsKeepTypes, RunsKeepTypes}
 use Rattle.wasm_meaning.proofs.MarkedCode.{by_kind, unmarked-marked}
-use Rattle.wasm_meaning.proofs.Values.{some_same, have_append, have_reverse, zeros_fit, reverse_few}
+use Rattle.wasm_meaning.proofs.Values.{some_same, if_some, have_append, have_reverse, zeros_fit, reverse_few}
 use Rattle.wasm_meaning.proofs.HostsKept.{host_func, host_kept}
 use Rattle.wasm_meaning.proofs.ActionsKept.{instructions_keep_types}
 use Rattle.wasm_meaning.proofs.Sequences.{labels, BelowKept, again_kept, sequence_kept}
 use Rattle.wasm_meaning.proofs.States.{kept_start, turned_kept}
 
 -- ---- lists
-
-if_some : {A : Type 0} (o : Option A) (x : A) (P : A → Type 0) → o ≡ Some x → IfSome o P → P x
-if_some None x P e h = absurd cc
-if_some (Some y) x P e h = subst P (some_same e) h
 
 at_of : {A : Type 0} (P : A → Type 0) (xs : List A) (i : ℕ) (x : A) → All P xs → slice_get xs i ≡ Some x → P x
 at_of P xs i x all at = subst P (get_or_from_slice_get xs i x x at) (all i x (slice_get_within xs i x at))
@@ -58,13 +54,18 @@ on_false b x y e = rw e refl
 
 runs_integer : (rs : List LocalRun) → All (λ (r : LocalRun). IsInteger r.kind) rs → All IsInteger (run_types rs)
 runs_integer [] all = All-nil IsInteger
-runs_integer (r ∷ rs) all = All-append IsInteger (replicate r.count r.kind) (run_types rs) (All-replicate IsInteger r.count r.kind (All-head (λ (x : LocalRun). IsInteger x.kind) r rs all)) (runs_integer rs (All-tail (λ (x : LocalRun). IsInteger x.kind) r rs all))
+runs_integer (r ∷ rs) all =
+    All-append IsInteger (replicate r.count r.kind) (run_types rs)
+    (All-replicate IsInteger r.count r.kind (All-head (λ (x : LocalRun). IsInteger x.kind) r rs all))
+    (runs_integer rs (All-tail (λ (x : LocalRun). IsInteger x.kind) r rs all))
 
 module _ (m : Module) (valid : IsValid m) (nofl : HasNoFloat m) where
   -- ---- functions of the module
 
   few_results : (f : ℕ) (F : FuncType) → type_of_func m f ≡ Some F → length F.results ≤ 1
-  few_results f F at = let n = numbered m.types (slice_get (func_types m) f) F at in if_some (slice_get m.types n.0) F (λ (t : FuncType). length t.results ≤ 1) n.2 (valid.1 (part.TypeAt n.0))
+  few_results f F at =
+      let n = numbered m.types (slice_get (func_types m) f) F at in
+      if_some (slice_get m.types n.0) F (λ (t : FuncType). length t.results ≤ 1) n.2 (valid.1 (part.TypeAt n.0))
 
   is_function : (f : ℕ) (F : FuncType) → type_of_func m f ≡ Some F → f < length (func_types m)
   is_function f F at = let n = numbered m.types (slice_get (func_types m) f) F at in slice_get_within (func_types m) f n.0 n.1
@@ -100,20 +101,29 @@ module _ (m : Module) (valid : IsValid m) (nofl : HasNoFloat m) where
         → RunKept m z (local_types F b) (F.results ∷ []) F.results (activation (fixed m z) below watched (func F b) args s)
     activation_kept below bk f F b at has watched args s ha k =
         let back = sym (unmarked-marked watched 0 (code_of b.code)) in
-        sequence_kept m z (local_types F b) F.results below bk [] (length F.results ∷ []) refl (marked watched 0 (code_of b.code)) (by_kind watched 0 (code_of b.code))
+        sequence_kept m z (local_types F b) F.results below bk [] (length F.results ∷ []) refl (marked watched 0 (code_of b.code))
+        (by_kind watched 0 (code_of b.code))
         (subst ProperCode back (at_of ProperBody m.bodies (f - import_count m) b valid.0.bodies has.1).2) [] F.results
         (subst (λ x. Leads (standing m (local_types F b) F.results) (F.results ∷ []) x [] F.results) back (valid.1 (part.FuncAt f) F b at has))
         (entered (func F b) args s) tt
-        (record { locals = have_append args (map zero_value (run_types b.locals)) F.params (run_types b.locals) ha (zeros_fit (run_types b.locals) (runs_integer b.locals (nofl (part.FuncAt f) b has).0)); state = k })
+        (record {
+          locals = have_append args (map zero_value (run_types b.locals)) F.params (run_types b.locals) ha
+              (zeros_fit (run_types b.locals) (runs_integer b.locals (nofl (part.FuncAt f) b has).0));
+          state = k;
+        })
 
     returned_kept : (types locals : List ValType) (F : FuncType) (o : Outcome) (s : Store) (r : Run) → length F.results ≤ 1 → r.outcome ≡ o
         → RunKept m z locals (F.results ∷ []) F.results r → StoreKept m z types s → AnswerKept m z types (reverse F.results) (returned o s r.there)
-    returned_kept types locals F Normal s r few e k g =
-        (subst (HaveTypes r.there.stack) (sym (reverse_few F.results few)) (subst (λ x. EndKept (F.results ∷ []) F.results x r.there.stack) e k.ends), record { locals = g.locals; state = k.store.state })
+    returned_kept types locals F Normal s r few e k g = (
+      subst (HaveTypes r.there.stack) (sym (reverse_few F.results few))
+          (subst (λ x. EndKept (F.results ∷ []) F.results x r.there.stack) e k.ends),
+      record { locals = g.locals; state = k.store.state },
+    )
     returned_kept types locals F (Branch zero) s r few e k g =
         let a = subst (λ x. EndKept (F.results ∷ []) F.results x r.there.stack) e k.ends in
         (subst (HaveTypes r.there.stack) (sym (some_same a.1) ∙ sym (reverse_few F.results few)) a.2, record { locals = g.locals; state = k.store.state })
-    returned_kept types locals F (Branch (suc l)) s r few e k g = let a = subst (λ x. EndKept (F.results ∷ []) F.results x r.there.stack) e k.ends in absurd (nothing a.0 a.1)
+    returned_kept types locals F (Branch (suc l)) s r few e k g =
+        let a = subst (λ x. EndKept (F.results ∷ []) F.results x r.there.stack) e k.ends in absurd (nothing a.0 a.1)
       where
         nothing : (t : List ValType) → None ≡ Some t → ⊥
         nothing t e = cc
@@ -128,7 +138,9 @@ module _ (m : Module) (valid : IsValid m) (nofl : HasNoFloat m) where
         k' = turned_kept m z types s k
 
         go : (x : Bool) → nat_lt f (import_count m) ≡ x → AnswerKept m z types (reverse F.results) (calls (fixed m z) below f vs s)
-        go true e = subst (λ (x : Option HostFunc). AnswerKept m z types (reverse F.results) (call_by (fixed m z) below x f vs (turned s))) (sym (imported_is f F at e)) (host_kept m z types f F vs (turned s) k')
+        go true e =
+            subst (λ (x : Option HostFunc). AnswerKept m z types (reverse F.results) (call_by (fixed m z) below x f vs (turned s)))
+            (sym (imported_is f F at e)) (host_kept m z types f F vs (turned s) k')
         go false e =
             let (b, has) = has_body f F at (ltb-false f (import_count m) e) in
             let args = subst (HaveTypes (reverse vs)) (reverse-reverse F.params) (have_reverse vs (reverse F.params) h) in
@@ -157,32 +169,40 @@ module _ (m : Module) (valid : IsValid m) (nofl : HasNoFloat m) where
 pub sequences_keep_types : SequencesKeepTypes
 sequences_keep_types m valid nofl z depth types result outer code mark p from to proper q h hs s =
     let back = sym (unmarked-marked mark p code) in
-    sequence_kept m z types result (nested (fixed m z) depth) (nested_kept m valid nofl z depth) outer (map length (labels outer result)) refl (marked mark p code) (by_kind mark p code)
+    sequence_kept m z types result (nested (fixed m z) depth) (nested_kept m valid nofl z depth) outer (map length (labels outer result)) refl
+    (marked mark p code) (by_kind mark p code)
     (subst ProperCode back proper) from to (subst (λ x. Leads (standing m types result) (labels outer result) x from to) back q) h hs s
 
 pub calls_keep_types : CallsKeepTypes
 calls_keep_types m valid nofl z depth = call_kept m valid nofl z (nested (fixed m z) depth) (nested_kept m valid nofl z depth)
 
 -- an imported function
-invoked_host : (m : Module) (valid : IsValid m) (nofl : HasNoFloat m) (f : ℕ) (F : FuncType) → type_of_func m f ≡ Some F → (s : State) → Fits m s → (args : List Value) → nat_lt f (import_count m) ≡ true
+invoked_host : (m : Module) (valid : IsValid m) (nofl : HasNoFloat m) (f : ℕ) (F : FuncType) → type_of_func m f ≡ Some F → (s : State) → Fits m s
+    → (args : List Value) → nat_lt f (import_count m) ≡ true
     → (depth : ℕ) (watched : ℕ → Bool) → AnswerKept m s [] F.results (invocation m depth watched f args s).answer
 invoked_host m valid nofl f F at s fits args e depth watched =
     let Z = fixed m s in
     let k = host_kept m s [] f F (reverse args) (alone s) (record { locals = tt; state = kept_start m s fits }) in
-    subst (λ (x : Option HostFunc). AnswerKept m s [] F.results (invoked_by Z (nested Z depth) watched x f args (alone s)).answer) (sym (imported_is m valid nofl f F at e))
+    subst (λ (x : Option HostFunc). AnswerKept m s [] F.results (invoked_by Z (nested Z depth) watched x f args (alone s)).answer)
+    (sym (imported_is m valid nofl f F at e))
     (subst (λ x. AnswerKept m s [] x (call_host (host_func m f F) (reverse args) (alone s))) (reverse_few F.results (few_results m valid nofl f F at)) k)
 
 -- an own function
-invoked_itself : (m : Module) (valid : IsValid m) (nofl : HasNoFloat m) (f : ℕ) (F : FuncType) → type_of_func m f ≡ Some F → (s : State) → Fits m s → (args : List Value) → HaveTypes args F.params → nat_lt f (import_count m) ≡ false
+invoked_itself : (m : Module) (valid : IsValid m) (nofl : HasNoFloat m) (f : ℕ) (F : FuncType) → type_of_func m f ≡ Some F → (s : State) → Fits m s
+    → (args : List Value) → HaveTypes args F.params → nat_lt f (import_count m) ≡ false
     → (depth : ℕ) (watched : ℕ → Bool) → AnswerKept m s [] F.results (invocation m depth watched f args s).answer
 invoked_itself m valid nofl f F at s fits args ha e depth watched =
     let Z = fixed m s in
     let (b, has) = has_body m valid nofl f F at (ltb-false f (import_count m) e) in
     let r = activation_kept m valid nofl s (nested Z depth) (nested_kept m valid nofl s depth) f F b at has watched args s ha (kept_start m s fits) in
-    let k = returned_kept m valid nofl s [] (local_types F b) F _ (alone s) _ (few_results m valid nofl f F at) refl r (record { locals = tt; state = kept_start m s fits }) in
-    subst (λ (o : Option HostFunc). AnswerKept m s [] F.results (invoked_by Z (nested Z depth) watched o f args (alone s)).answer) (sym (own_is m valid nofl f e))
-    (subst (λ (o : Option Func). AnswerKept m s [] F.results (invoked_own Z (nested Z depth) watched o args (alone s)).answer) (sym (func_is m valid nofl f F b at has))
-    (subst (λ x. AnswerKept m s [] x (seen_in (activation Z (nested Z depth) watched (func m valid nofl F b) args s) (alone s)).answer) (reverse_few F.results (few_results m valid nofl f F at)) k))
+    let k = returned_kept m valid nofl s [] (local_types F b) F _ (alone s) _ (few_results m valid nofl f F at) refl r
+    (record { locals = tt; state = kept_start m s fits }) in
+    subst (λ (o : Option HostFunc). AnswerKept m s [] F.results (invoked_by Z (nested Z depth) watched o f args (alone s)).answer)
+    (sym (own_is m valid nofl f e))
+    (subst (λ (o : Option Func). AnswerKept m s [] F.results (invoked_own Z (nested Z depth) watched o args (alone s)).answer)
+    (sym (func_is m valid nofl f F b at has))
+    (subst (λ x. AnswerKept m s [] x (seen_in (activation Z (nested Z depth) watched (func m valid nofl F b) args s) (alone s)).answer)
+    (reverse_few F.results (few_results m valid nofl f F at)) k))
 
 pub invocations_keep_types : InvocationsKeepTypes
 invocations_keep_types m valid nofl f F at s fits args ha depth watched = go (nat_lt f (import_count m)) refl
@@ -191,7 +211,8 @@ invocations_keep_types m valid nofl f F at s fits args ha depth watched = go (na
     go true e = invoked_host m valid nofl f F at s fits args e depth watched
     go false e = invoked_itself m valid nofl f F at s fits args ha e depth watched
 
-ending_kept : (m : Module) (s : State) (result : List ValType) (a : Answer) (ending : Ending) (last : State) → AnswerKept m s [] result a → EndsAs a ending last → EndingKept result ending × StateKept m s last
+ending_kept : (m : Module) (s : State) (result : List ValType) (a : Answer) (ending : Ending) (last : State) → AnswerKept m s [] result a
+    → EndsAs a ending last → EndingKept result ending × StateKept m s last
 ending_kept m s result (Gives e) (Returned results) last k h = (subst (λ x. HaveTypes x result) h.0 k.0, subst (StateKept m s) h.1 k.1.state)
 ending_kept m s result (Gives e) (Trapped reason) last k h = absurd h
 ending_kept m s result (Stops why st) (Returned results) last k h = absurd h
@@ -199,7 +220,8 @@ ending_kept m s result (Stops why st) (Trapped reason) last k h = (tt, subst (St
 
 pub ends_keep_types : EndsKeepTypes
 ends_keep_types m valid nofl f F at s fits args ha i ending last events d =
-    ending_kept m s F.results (invocation m d.depth (nat_eq i) f args s).answer ending last (invocations_keep_types m valid nofl f F at s fits args ha d.depth (nat_eq i)) d.ends
+    ending_kept m s F.results (invocation m d.depth (nat_eq i) f args s).answer ending last
+    (invocations_keep_types m valid nofl f F at s fits args ha d.depth (nat_eq i)) d.ends
 
 pub runs_keep_types : RunsKeepTypes
 runs_keep_types = record {

@@ -49,7 +49,8 @@ outermost_is : (outer : List (List ValType)) (result : List ValType) → outermo
 outermost_is [] result = refl
 outermost_is (x ∷ outer) result = count_labels outer result
 
-chosen_is : (Ls : List (List ValType)) (some : List ℕ) (other n : ℕ) (t : List ValType) → slice_get Ls other ≡ Some t → All (λ k. slice_get Ls k ≡ Some t) some → slice_get Ls (chosen some other n) ≡ Some t
+chosen_is : (Ls : List (List ValType)) (some : List ℕ) (other n : ℕ) (t : List ValType) → slice_get Ls other ≡ Some t
+    → All (λ k. slice_get Ls k ≡ Some t) some → slice_get Ls (chosen some other n) ≡ Some t
 chosen_is Ls [] other n t e all = e
 chosen_is Ls (k ∷ some) other zero t e all = All-head (λ k. slice_get Ls k ≡ Some t) k some all
 chosen_is Ls (k ∷ some) other (suc n) t e all = chosen_is Ls some other n t e (All-tail (λ k. slice_get Ls k ≡ Some t) k some all)
@@ -60,7 +61,8 @@ chosen_is Ls (k ∷ some) other (suc n) t e all = chosen_is Ls some other n t e 
 pub record BelowKept (m : Module) (z : State) (b : Below) : Type 0 where
   pub call : CallsKept m z b.call
   pub lap : (types result : List ValType) (outer : List (List ValType)) (ls : List ℕ) (body : Marked) (to : List ValType)
-      → ls ≡ map length (labels outer result) → ByKind body → ProperCode (unmarked body) → Leads (standing m types result) ([] ∷ labels outer result) (unmarked body) [] to
+      → ls ≡ map length (labels outer result) → ByKind body → ProperCode (unmarked body)
+      → Leads (standing m types result) ([] ∷ labels outer result) (unmarked body) [] to
       → (h : Here) → HaveTypes h.stack [] → StoreKept m z types h.store → RunKept m z types (to ∷ labels outer result) to (b.lap ls body h)
 
 module _ (m : Module) (z : State) (types : List ValType) where
@@ -74,39 +76,79 @@ module _ (m : Module) (z : State) (types : List ValType) where
   after_kept : (Ls : List (List ValType)) (to : List ValType) (es : List Event) (r : Run) → Keeps Ls to r → Keeps Ls to (after es r)
   after_kept Ls to es r k = record { ends = k.ends; store = k.store }
 
-  go_on_kept : (Ls : List (List ValType)) (mid to : List ValType) (o : Outcome) (r : Run) (go : Here → Run) → r.outcome ≡ o → Keeps Ls mid r → Goes Ls mid to go → Keeps Ls to (go_on o r go)
+  go_on_kept : (Ls : List (List ValType)) (mid to : List ValType) (o : Outcome) (r : Run) (go : Here → Run) → r.outcome ≡ o → Keeps Ls mid r
+      → Goes Ls mid to go → Keeps Ls to (go_on o r go)
   go_on_kept Ls mid to Normal r go e k g = after_kept Ls to r.events (go r.there) (g r.there (subst (λ x. EndKept Ls mid x r.there.stack) e k.ends) k.store)
-  go_on_kept Ls mid to (Branch l) r go e k g = record { ends = subst (λ x. EndKept Ls to x r.there.stack) (sym e) (subst (λ x. EndKept Ls mid x r.there.stack) e k.ends); store = k.store }
-  go_on_kept Ls mid to (Stopped why) r go e k g = record { ends = subst (λ x. EndKept Ls to x r.there.stack) (sym e) (subst (λ x. EndKept Ls mid x r.there.stack) e k.ends); store = k.store }
+  go_on_kept Ls mid to
+      (Branch l) r go e k g = record {
+        ends = subst (λ x. EndKept Ls to x r.there.stack) (sym e)
+            (subst (λ x. EndKept Ls mid x r.there.stack) e k.ends);
+        store = k.store;
+      }
+  go_on_kept Ls mid to
+      (Stopped why) r go e k g = record {
+        ends = subst (λ x. EndKept Ls to x r.there.stack) (sym e)
+            (subst (λ x. EndKept Ls mid x r.there.stack) e k.ends);
+        store = k.store;
+      }
 
   then_kept : (Ls : List (List ValType)) (mid to : List ValType) (r : Run) (go : Here → Run) → Keeps Ls mid r → Goes Ls mid to go → Keeps Ls to (then_do r go)
   then_kept Ls mid to r go k g = go_on_kept Ls mid to r.outcome r go refl k g
 
   -- a block of this label and these results, above this stack
-  leave_by_kept : (Ls : List (List ValType)) (to s : List ValType) (o : Outcome) (below : List Value) (r : Run) → r.outcome ≡ o → Keeps (to ∷ Ls) to r → HaveTypes below s → Keeps Ls (to ++ s) (leave_by o below r)
-  leave_by_kept Ls to s Normal below r e k h = record { ends = have_append r.there.stack below to s (subst (λ x. EndKept (to ∷ Ls) to x r.there.stack) e k.ends) h; store = k.store }
+  leave_by_kept : (Ls : List (List ValType)) (to s : List ValType) (o : Outcome) (below : List Value) (r : Run) → r.outcome ≡ o → Keeps (to ∷ Ls) to r
+      → HaveTypes below s → Keeps Ls (to ++ s) (leave_by o below r)
+  leave_by_kept Ls to s Normal below r e k h = record {
+    ends = have_append r.there.stack below to s
+        (subst (λ x. EndKept (to ∷ Ls) to x r.there.stack) e k.ends) h;
+    store = k.store;
+  }
   leave_by_kept Ls to s (Branch zero) below r e k h =
       let a = subst (λ x. EndKept (to ∷ Ls) to x r.there.stack) e k.ends in
       record { ends = have_append r.there.stack below to s (subst (HaveTypes r.there.stack) (sym (some_same a.1)) a.2) h; store = k.store }
   leave_by_kept Ls to s (Branch (suc l)) below r e k h = record { ends = subst (λ x. EndKept (to ∷ Ls) to x r.there.stack) e k.ends; store = k.store }
-  leave_by_kept Ls to s (Stopped why) below r e k h = record { ends = subst (λ x. EndKept Ls (to ++ s) x r.there.stack) (sym e) (subst (λ x. EndKept (to ∷ Ls) to x r.there.stack) e k.ends); store = k.store }
+  leave_by_kept Ls to s
+      (Stopped why) below r e k h = record {
+        ends = subst (λ x. EndKept Ls (to ++ s) x r.there.stack) (sym e)
+            (subst (λ x. EndKept (to ∷ Ls) to x r.there.stack) e k.ends);
+        store = k.store;
+      }
 
-  leave_kept : (Ls : List (List ValType)) (to s : List ValType) (below : List Value) (r : Run) → Keeps (to ∷ Ls) to r → HaveTypes below s → Keeps Ls (to ++ s) (leave below r)
+  leave_kept : (Ls : List (List ValType)) (to s : List ValType) (below : List Value) (r : Run) → Keeps (to ∷ Ls) to r → HaveTypes below s
+      → Keeps Ls (to ++ s) (leave below r)
   leave_kept Ls to s below r k h = leave_by_kept Ls to s r.outcome below r refl k h
 
-  again_by_kept : (Ls : List (List ValType)) (to : List ValType) (o : Outcome) (r : Run) (go : Here → Run) → r.outcome ≡ o → Keeps ([] ∷ Ls) to r → Goes (to ∷ Ls) [] to go → Keeps (to ∷ Ls) to (again_by o r go)
+  again_by_kept : (Ls : List (List ValType)) (to : List ValType) (o : Outcome) (r : Run) (go : Here → Run) → r.outcome ≡ o → Keeps ([] ∷ Ls) to r
+      → Goes (to ∷ Ls) [] to go → Keeps (to ∷ Ls) to (again_by o r go)
   again_by_kept Ls to (Branch zero) r go e k g =
       after_kept (to ∷ Ls) to r.events (go (back r.there)) (g (back r.there) tt (turned_kept m z types r.there.store k.store))
-  again_by_kept Ls to (Branch (suc l)) r go e k g = record { ends = subst (λ x. EndKept (to ∷ Ls) to x r.there.stack) (sym e) (subst (λ x. EndKept ([] ∷ Ls) to x r.there.stack) e k.ends); store = k.store }
-  again_by_kept Ls to Normal r go e k g = record { ends = subst (λ x. EndKept (to ∷ Ls) to x r.there.stack) (sym e) (subst (λ x. EndKept ([] ∷ Ls) to x r.there.stack) e k.ends); store = k.store }
-  again_by_kept Ls to (Stopped why) r go e k g = record { ends = subst (λ x. EndKept (to ∷ Ls) to x r.there.stack) (sym e) (subst (λ x. EndKept ([] ∷ Ls) to x r.there.stack) e k.ends); store = k.store }
+  again_by_kept Ls to
+      (Branch (suc l)) r go e k g = record {
+        ends = subst (λ x. EndKept (to ∷ Ls) to x r.there.stack) (sym e)
+            (subst (λ x. EndKept ([] ∷ Ls) to x r.there.stack) e k.ends);
+        store = k.store;
+      }
+  again_by_kept Ls to Normal r go e k g = record {
+    ends = subst (λ x. EndKept (to ∷ Ls) to x r.there.stack) (sym e)
+        (subst (λ x. EndKept ([] ∷ Ls) to x r.there.stack) e k.ends);
+    store = k.store;
+  }
+  again_by_kept Ls to
+      (Stopped why) r go e k g = record {
+        ends = subst (λ x. EndKept (to ∷ Ls) to x r.there.stack) (sym e)
+            (subst (λ x. EndKept ([] ∷ Ls) to x r.there.stack) e k.ends);
+        store = k.store;
+      }
 
-  pub again_kept : (Ls : List (List ValType)) (to : List ValType) (r : Run) (go : Here → Run) → Keeps ([] ∷ Ls) to r → Goes (to ∷ Ls) [] to go → Keeps (to ∷ Ls) to (again r go)
+  pub again_kept : (Ls : List (List ValType)) (to : List ValType) (r : Run) (go : Here → Run) → Keeps ([] ∷ Ls) to r → Goes (to ∷ Ls) [] to go
+      → Keeps (to ∷ Ls) to (again r go)
   again_kept Ls to r go k g = again_by_kept Ls to r.outcome r go refl k g
 
   step_kept : (Ls : List (List ValType)) (l rest to : List ValType) (mark : Bool) (n : ℕ) (h : Here) (a : Answer) (go : Here → Run)
-      → AnswerKept m z types l a → HaveTypes (drop n h.stack) rest → StoreKept m z types h.store → Goes Ls (l ++ rest) to go → Keeps Ls to (do_step mark n h a go)
-  step_kept Ls l rest to mark n h (Gives e) go k d s g = after_kept Ls to _ _ (g (record { stack = e.results ++ drop n h.stack; store = e.store }) (have_append e.results (drop n h.stack) l rest k.0 d) k.1)
+      → AnswerKept m z types l a → HaveTypes (drop n h.stack) rest → StoreKept m z types h.store → Goes Ls (l ++ rest) to go
+      → Keeps Ls to (do_step mark n h a go)
+  step_kept Ls l rest to mark n h (Gives e) go k d s g =
+      after_kept Ls to _ _ (g (record { stack = e.results ++ drop n h.stack; store = e.store }) (have_append e.results (drop n h.stack) l rest k.0 d) k.1)
   step_kept Ls l rest to mark n h (Stops why st) go k d s g = record { ends = k.0; store = record { locals = s.locals; state = k.1 } }
 
   on_top_kept : (Ls : List (List ValType)) (t : ValType) (rest to : List ValType) (h : Here) (vs : List Value) (go : Value → List Value → Run)
@@ -120,13 +162,15 @@ module _ (m : Module) (z : State) (types : List ValType) where
 
   -- a branch to a label, of a stack that begins with what it carries
   branch_kept : (Ls : List (List ValType)) (ls : List ℕ) (to t r : List ValType) (l : ℕ) (vs : List Value) (h : Here)
-      → ls ≡ map length Ls → slice_get Ls l ≡ Some t → HaveTypes vs (t ++ r) → StoreKept m z types h.store → Keeps Ls to (ends (Branch l) (at_stack (take (carried ls l) vs) h))
+      → ls ≡ map length Ls → slice_get Ls l ≡ Some t → HaveTypes vs (t ++ r) → StoreKept m z types h.store
+      → Keeps Ls to (ends (Branch l) (at_stack (take (carried ls l) vs) h))
   branch_kept Ls ls to t r l vs h e at k s =
       let n : carried ls l ≡ length t = ap (λ x. carried x l) e ∙ carried_is Ls l t at in
       record { ends = (t, at, subst (λ x. HaveTypes (take x vs) t) (sym n) (have_split vs t r k).0); store = s }
 
   module _ (result : List ValType) (b : Below) (bk : BelowKept m z b) where
-    pub sequence_kept : (outer : List (List ValType)) (ls : List ℕ) → ls ≡ map length (labels outer result) → (code : Marked) → ByKind code → ProperCode (unmarked code) → (from to : List ValType)
+    pub sequence_kept : (outer : List (List ValType)) (ls : List ℕ) → ls ≡ map length (labels outer result) → (code : Marked) → ByKind code
+        → ProperCode (unmarked code) → (from to : List ValType)
         → Leads (standing m types result) (labels outer result) (unmarked code) from to → Goes (labels outer result) from to (run (fixed m z) b ls code)
     sequence_kept outer ls e End bk' pc from to q h hs s = record { ends = subst (HaveTypes h.stack) q hs; store = s }
     sequence_kept outer ls e (Do mark op rest) kind pc from to (mid, p, q) h hs s =
@@ -134,7 +178,8 @@ module _ (m : Module) (z : State) (types : List ValType) where
         let a = instructions_keep_types m z b.call bk.call types result op t l pc.0 ty in
         let n : takes (callees m) op ≡ length t = a.0 in
         let d = have_split h.stack t r (subst (HaveTypes h.stack) f hs) in
-        step_kept (labels outer result) l r to mark (takes (callees m) op) h (effect (fixed m z) b.call op (take (takes (callees m) op) h.stack) h.store) (run (fixed m z) b ls rest)
+        step_kept (labels outer result) l r to mark (takes (callees m) op) h (effect (fixed m z) b.call op (take (takes (callees m) op) h.stack) h.store)
+        (run (fixed m z) b ls rest)
         (a.2 (take (takes (callees m) op) h.stack) (subst (λ x. HaveTypes (take x h.stack) t) (sym n) d.0) h.store s)
         (subst (λ x. HaveTypes (drop x h.stack) r) (sym n) d.1) s
         (λ h' hs' s'. sequence_kept outer ls e rest kind.1 pc.1 mid to q h' (subst (HaveTypes h'.stack) (sym g) hs') s')
@@ -142,7 +187,8 @@ module _ (m : Module) (z : State) (types : List ValType) where
         let Ls = labels outer result in
         let e' = ap₂ {A = ℕ} {B = List ℕ} (λ x xs. x ∷ xs) (arity_is kind) e in
         after_kept Ls to _ _ (then_kept Ls (values_of kind ++ from) to _ (run (fixed m z) b ls rest)
-        (leave_kept Ls (values_of kind) from h.stack _ (sequence_kept (values_of kind ∷ outer) (arity kind ∷ ls) e' body bk'.0 pc.0 [] (values_of kind) q.0 (at_stack [] h) tt s) hs)
+        (leave_kept Ls (values_of kind) from h.stack _
+        (sequence_kept (values_of kind ∷ outer) (arity kind ∷ ls) e' body bk'.0 pc.0 [] (values_of kind) q.0 (at_stack [] h) tt s) hs)
         (λ h' hs' s'. sequence_kept outer ls e rest bk'.1 pc.1 (values_of kind ++ from) to q.1 h' hs' s'))
     sequence_kept outer ls e (Loop mark kind body rest) bk' pc from to q h hs s =
         let Ls = labels outer result in
@@ -176,5 +222,7 @@ module _ (m : Module) (z : State) (types : List ValType) where
     sequence_kept outer ls e (Return mark rest) bk' pc from to (mid, (r, f), q) h hs s =
         let Ls = labels outer result in
         let o : outermost ls ≡ length outer = ap outermost e ∙ outermost_is outer result in
-        after_kept Ls to _ _ (branch_kept Ls ls to result r (outermost ls) h.stack h e (subst (λ x. slice_get Ls x ≡ Some result) (sym o) (last_label outer result)) (subst (HaveTypes h.stack) f hs) s)
+        after_kept Ls to _ _
+        (branch_kept Ls ls to result r (outermost ls) h.stack h e (subst (λ x. slice_get Ls x ≡ Some result) (sym o) (last_label outer result))
+        (subst (HaveTypes h.stack) f hs) s)
     sequence_kept outer ls e (Unreachable mark rest) bk' pc from to q h hs s = record { ends = tt; store = s }

@@ -26,7 +26,7 @@ use Rattle.wasm_types.specs.Hosts.{is_within, MayStand}
 use Rattle.wasm_meaning.specs.Cells.{put}
 use Rattle.wasm_meaning.specs.Memory.{written}
 use Rattle.wasm_meaning.specs.Start.{constant, first_globals, least, bare, begins, named, table_after, data_after, StartsFit}
-use Rattle.wasm_meaning.proofs.Values.{some_same, have_append, have_at}
+use Rattle.wasm_meaning.proofs.Values.{some_same, if_some, have_append, have_at}
 use Rattle.wasm_meaning.proofs.Bytes.{IsByte, AreBytes, written_long, written_bytes, within_le}
 use Rattle.wasm_meaning.proofs.ActionTyping.{global_known}
 
@@ -44,23 +44,23 @@ each_append P (z ∷ xs) ys h g (suc k) x at = each_append P xs ys (λ j y a. h 
 each_of : {A : Type 0} (P : A → Type 0) (xs : List A) → All P xs → Each P xs
 each_of P xs all k x at = subst P (get_or_from_slice_get xs k x x at) (all k x (slice_get_within xs k x at))
 
-if_some : {A : Type 0} (o : Option A) (x : A) (P : A → Type 0) → o ≡ Some x → IfSome o P → P x
-if_some None x P e h = absurd cc
-if_some (Some y) x P e h = subst P (some_same e) h
-
 -- ---- globals
 
-constant_fits : (ims : List GlobalType) (gs : List Value) → HaveTypes gs (map global_type ims) → (t : ValType) (code : List Instr) → IsConstant ims t code → ProperInstrs code → HasType (constant gs code) t
+constant_fits : (ims : List GlobalType) (gs : List Value) → HaveTypes gs (map global_type ims) → (t : ValType) (code : List Instr) → IsConstant ims t code
+    → ProperInstrs code → HasType (constant gs code) t
 unfolding onto
 constant_fits ims gs h t (I32Const n ∷ []) c p = (c, p.0)
 constant_fits ims gs h t (I64Const n ∷ []) c p = (c, p.0)
-constant_fits ims gs h t (GlobalGet x ∷ []) c p = subst (HasType (constant gs (GlobalGet x ∷ []))) c.2 (have_at gs (map global_type ims) x c.0.kind (value.I32 0) h (global_known ims x c.0 c.1))
+constant_fits ims gs h t (GlobalGet x ∷ []) c p =
+    subst (HasType (constant gs (GlobalGet x ∷ []))) c.2 (have_at gs (map global_type ims) x c.0.kind (value.I32 0) h (global_known ims x c.0 c.1))
 constant_fits ims gs h t _ c p = absurd c
 
-own_fit : (ims : List GlobalType) (gs : List Value) → HaveTypes gs (map global_type ims) → (ds : List GlobalDef) → Each (λ (g : GlobalDef). IsConstant ims g.kind.kind g.init × ProperInstrs g.init) ds
+own_fit : (ims : List GlobalType) (gs : List Value) → HaveTypes gs (map global_type ims) → (ds : List GlobalDef)
+    → Each (λ (g : GlobalDef). IsConstant ims g.kind.kind g.init × ProperInstrs g.init) ds
     → HaveTypes (map (λ (g : GlobalDef). constant gs g.init) ds) (map global_type (map global_kind ds))
 own_fit ims gs h [] each = tt
-own_fit ims gs h (d ∷ ds) each = let a = each zero d refl in (constant_fits ims gs h d.kind.kind d.init a.0 a.1, own_fit ims gs h ds (λ k x at. each (suc k) x at))
+own_fit ims gs h (d ∷ ds) each =
+    let a = each zero d refl in (constant_fits ims gs h d.kind.kind d.init a.0 a.1, own_fit ims gs h ds (λ k x at. each (suc k) x at))
 
 -- ---- limits
 
@@ -74,7 +74,8 @@ memory_within (import.Global g) m h k x at = absurd cc
 imports_within : (m : Module) (is : List Import) → Each (λ (i : Import). ImportHolds m i.kind) is → Each (LimitsWithin most_pages) (imported memory_import is)
 imports_within m [] h k x at = absurd cc
 imports_within m (i ∷ is) h k x at =
-    each_append (LimitsWithin most_pages) (memory_import i.kind) (imported memory_import is) (memory_within i.kind m (h zero i refl)) (imports_within m is (λ j y a. h (suc j) y a)) k x at
+    each_append (LimitsWithin most_pages) (memory_import i.kind) (imported memory_import is) (memory_within i.kind m (h zero i refl))
+    (imports_within m is (λ j y a. h (suc j) y a)) k x at
 
 least_within : (ls : List Limits) → Each (LimitsWithin most_pages) ls → least ls ≤ 65536
 least_within [] h = omega arith
@@ -87,7 +88,8 @@ max_above (Some x) n h = h.0
 least_below : (ls : List Limits) → length ls ≤ 1 → Each (LimitsWithin most_pages) ls → All (λ (l : Limits). IfSome l.max (λ most. least ls ≤ most)) ls
 least_below [] le h = All-nil (λ (l : Limits). IfSome l.max (λ most. 0 ≤ most))
 least_below (l ∷ []) le h =
-    All-cons (λ (x : Limits). IfSome x.max (λ most. l.min ≤ most)) l [] (max_above l.max l.min (h zero l refl).1) (All-nil (λ (x : Limits). IfSome x.max (λ most. l.min ≤ most)))
+    All-cons (λ (x : Limits). IfSome x.max (λ most. l.min ≤ most)) l [] (max_above l.max l.min (h zero l refl).1)
+    (All-nil (λ (x : Limits). IfSome x.max (λ most. l.min ≤ most)))
 least_below (l ∷ k ∷ ls) le h = absurd (omega arith)
 
 -- ---- segments
@@ -97,11 +99,14 @@ data_fit : (gs : List Value) (ds : List DataSegment) (bytes : List ℕ) (long : 
     → (length (data_after gs ds bytes) ≡ long) × AreBytes (data_after gs ds bytes)
 data_fit gs [] bytes long l h fit proper = (l, h)
 data_fit gs (d ∷ ds) bytes long l h fit proper =
-    let le = within_le (begins gs d.offset) (length d.bytes) long (All-head (λ (d : DataSegment). is_within (begins gs d.offset) (length d.bytes) long ≡ true) d ds fit) in
+    let le = within_le (begins gs d.offset) (length d.bytes) long
+    (All-head (λ (d : DataSegment). is_within (begins gs d.offset) (length d.bytes) long ≡ true) d ds fit) in
     let le' : begins gs d.offset + length d.bytes ≤ length bytes = subst (λ n. begins gs d.offset + length d.bytes ≤ n) (sym l) le in
     let b = All-head (λ (d : DataSegment). AreBytes d.bytes) d ds proper in
-    data_fit gs ds (written (begins gs d.offset) d.bytes bytes) long (written_long (begins gs d.offset) d.bytes bytes le' ∙ l) (written_bytes (begins gs d.offset) d.bytes bytes b h)
-    (All-tail (λ (d : DataSegment). is_within (begins gs d.offset) (length d.bytes) long ≡ true) d ds fit) (All-tail (λ (d : DataSegment). AreBytes d.bytes) d ds proper)
+    data_fit gs ds (written (begins gs d.offset) d.bytes bytes) long (written_long (begins gs d.offset) d.bytes bytes le' ∙ l)
+    (written_bytes (begins gs d.offset) d.bytes bytes b h)
+    (All-tail (λ (d : DataSegment). is_within (begins gs d.offset) (length d.bytes) long ≡ true) d ds fit)
+    (All-tail (λ (d : DataSegment). AreBytes d.bytes) d ds proper)
 
 module _ (P : ℕ → Type 0) where
   abbrev Entry : Option ℕ → Type 0
@@ -117,9 +122,11 @@ module _ (P : ℕ → Type 0) where
   named_fit at [] table p h = h
   named_fit at (f ∷ fs) table p h = named_fit (at + 1) fs (put None at (Some f) table) (All-tail P f fs p) (put_entry at f table (All-head P f fs p) h)
 
-  table_fit : (gs : List Value) (es : List Elem) (table : List (Option ℕ)) → Each (λ (e : Elem). All P e.funcs) es → All Entry table → All Entry (table_after gs es table)
+  table_fit : (gs : List Value) (es : List Elem) (table : List (Option ℕ)) → Each (λ (e : Elem). All P e.funcs) es → All Entry table
+      → All Entry (table_after gs es table)
   table_fit gs [] table p h = h
-  table_fit gs (e ∷ es) table p h = table_fit gs es (named (begins gs e.offset) e.funcs table) (λ k x at. p (suc k) x at) (named_fit (begins gs e.offset) e.funcs table (p zero e refl) h)
+  table_fit gs (e ∷ es) table p h =
+      table_fit gs es (named (begins gs e.offset) e.funcs table) (λ k x at. p (suc k) x at) (named_fit (begins gs e.offset) e.funcs table (p zero e refl) h)
 
 -- a function that a valid element segment names may stand in the table
 may_stand : (m : Module) (k : ℕ) (e : Elem) → slice_get m.elems k ≡ Some e → ElemHolds m e → All (MayStand m) e.funcs
@@ -137,18 +144,23 @@ may_stand m k e at h j f lt =
 pub starts_fit : StartsFit
 starts_fit m valid gs cap host can =
     let s = bare m gs cap host in
-    let within : Each (LimitsWithin most_pages) (mems_of m) = each_append (LimitsWithin most_pages) (imported memory_import m.imports) m.mems (imports_within m m.imports imports) (each_of (LimitsWithin most_pages) m.mems (valid.1 part.MemoryAll).1) in
-    let a = data_fit s.globals m.segments s.bytes (65536 * least (mems_of m)) (length-replicate (65536 * least (mems_of m)) 0) (All-replicate IsByte (65536 * least (mems_of m)) 0 (omega arith)) can.segments bytes in
+    let within : Each (LimitsWithin most_pages) (mems_of m) = each_append (LimitsWithin most_pages) (imported memory_import m.imports) m.mems
+    (imports_within m m.imports imports) (each_of (LimitsWithin most_pages) m.mems (valid.1 part.MemoryAll).1) in
+    let a = data_fit s.globals m.segments s.bytes (65536 * least (mems_of m)) (length-replicate (65536 * least (mems_of m)) 0)
+    (All-replicate IsByte (65536 * least (mems_of m)) 0 (omega arith)) can.segments bytes in
     record {
       globals = subst (HaveTypes (first_globals m gs)) (sym (map-append global_type (imported global_import m.imports) (map global_kind m.globals)))
-          (have_append gs (map (λ (g : GlobalDef). constant gs g.init) m.globals) (map global_type (imported global_import m.imports)) (map global_type (map global_kind m.globals)) can.globals
+          (have_append gs (map (λ (g : GlobalDef). constant gs g.init) m.globals) (map global_type (imported global_import m.imports))
+          (map global_type (map global_kind m.globals)) can.globals
           (own_fit (imported global_import m.imports) gs can.globals m.globals own));
       pages = least_within (mems_of m) within;
       below_cap = can.pages;
       below_maximum = least_below (mems_of m) (valid.1 part.MemoryAll).0 within;
       long = a.0;
       bytes = a.1;
-      table = table_fit (MayStand m) s.globals m.elems s.table (λ k e at. may_stand m k e at (if_some (slice_get m.elems k) e (ElemHolds m) at (valid.1 (part.ElemAt k))))
+      table =
+          table_fit (MayStand m) s.globals m.elems s.table
+          (λ k e at. may_stand m k e at (if_some (slice_get m.elems k) e (ElemHolds m) at (valid.1 (part.ElemAt k))))
           (All-replicate (λ (entry : Option ℕ). IfSome entry (MayStand m)) (least (tables_of m)) None tt);
     }
   where
@@ -161,5 +173,8 @@ starts_fit m valid gs cap host can =
     own : Each (λ (g : GlobalDef). IsConstant (imported global_import m.imports) g.kind.kind g.init × ProperInstrs g.init) m.globals
     own j g at =
         let n = length (imported global_import m.imports) in
-        let e : j ≡ n + j - n = omega arith in
-        (valid.1 (part.GlobalAt (n + j)) g (omega arith) (subst (λ z. slice_get m.globals z ≡ Some g) e at), each_of ProperGlobal m.globals valid.0.globals j g at)
+        let e : j ≡ n + j - n = omega arith in (
+          valid.1 (part.GlobalAt (n + j)) g (omega arith)
+              (subst (λ z. slice_get m.globals z ≡ Some g) e at),
+          each_of ProperGlobal m.globals valid.0.globals j g at,
+        )

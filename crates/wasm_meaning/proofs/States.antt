@@ -16,13 +16,23 @@ kept_start m s f = record { fits = f; table = refl; cap = refl; host = refl; hos
 
 module _ (m : Module) (z : State) where
   -- a state that has other globals, pages or bytes
-  pub kept_by : (s s' : State) → StateKept m z s → Fits m s' → s'.table ≡ s.table → s'.cap ≡ s.cap → s'.host ≡ s.host → s'.host_calls ≡ s.host_calls → s'.turns ≡ s.turns → StateKept m z s'
+  pub kept_by : (s s' : State) → StateKept m z s → Fits m s' → s'.table ≡ s.table → s'.cap ≡ s.cap → s'.host ≡ s.host → s'.host_calls ≡ s.host_calls
+      → s'.turns ≡ s.turns → StateKept m z s'
   kept_by s s' k f table cap host calls turns =
       let n = k.turns in
-      record { fits = f; table = table ∙ k.table; cap = cap ∙ k.cap; host = host ∙ k.host; host_calls = (k.host_calls.0, calls ∙ k.host_calls.1); turns = omega arith }
+      record {
+        fits = f;
+        table = table ∙ k.table;
+        cap = cap ∙ k.cap;
+        host = host
+            ∙ k.host;
+        host_calls = (k.host_calls.0, calls ∙ k.host_calls.1);
+        turns = omega arith;
+      }
 
   -- a state of as many pages
-  pub fits_by : (s s' : State) → Fits m s → HaveTypes s'.globals (map global_type (globals_of m)) → length s'.bytes ≡ length s.bytes → AreBytes s'.bytes → s'.pages ≡ s.pages → s'.cap ≡ s.cap → s'.table ≡ s.table
+  pub fits_by : (s s' : State) → Fits m s → HaveTypes s'.globals (map global_type (globals_of m)) → length s'.bytes ≡ length s.bytes → AreBytes s'.bytes
+      → s'.pages ≡ s.pages → s'.cap ≡ s.cap → s'.table ≡ s.table
       → Fits m s'
   fits_by s s' f globals long bytes pages cap table =
       let le = f.pages in

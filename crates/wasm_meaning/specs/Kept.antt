@@ -63,8 +63,8 @@ AnswerKept m z locals results (Stops why s) = HasCause why × StateKept m z s
 -- calls of the functions of the module keep types
 abbrev pub CallsKept : Module → State → Calls → Type 0
 CallsKept m z c =
-    (f : ℕ) (F : FuncType) → type_of_func m f ≡ Some F → (vs : List Value) (types : List ValType) (s : Store) → HaveTypes vs (reverse F.params) → StoreKept m z types s
-    → AnswerKept m z types (reverse F.results) (c f vs s)
+    (f : ℕ) (F : FuncType) → type_of_func m f ≡ Some F
+    → (vs : List Value) (types : List ValType) (s : Store) → HaveTypes vs (reverse F.params) → StoreKept m z types s → AnswerKept m z types (reverse F.results) (c f vs s)
 
 -- the results have these types
 abbrev pub EndingKept : List ValType → Ending → Type 0
@@ -83,12 +83,15 @@ abbrev pub InstructionsKeepTypes : Type 0
 InstructionsKeepTypes =
     (m : Module) (z : State) (c : Calls) → CallsKept m z c → (types result : List ValType) (op : Instr) (t l : List ValType)
     → ProperImmediates (immediates op) → Types (standing m types result) op t l
-    → (takes (callees m) op ≡ length t) × (leaves (callees m) op ≡ length l) × ((vs : List Value) → HaveTypes vs t → (s : Store) → StoreKept m z types s → AnswerKept m z types l (effect (fixed m z) c op vs s))
+    → (takes (callees m) op ≡ length t)
+    × (leaves (callees m) op ≡ length l)
+    × ((vs : List Value) → HaveTypes vs t → (s : Store) → StoreKept m z types s → AnswerKept m z types l (effect (fixed m z) c op vs s))
 
 -- A typed sequence, of the labels' types, the outermost of which is the function's result, keeps types, however many turns may nest.
 abbrev pub SequencesKeepTypes : Type 0
 SequencesKeepTypes =
-    (m : Module) → IsValid m → HasNoFloat m → (z : State) (depth : ℕ) (types result : List ValType) (outer : List (List ValType)) (code : Code) (watched : ℕ → Bool) (p : ℕ) (from to : List ValType)
+    (m : Module) → IsValid m → HasNoFloat m → (z : State) (depth : ℕ) (types result : List ValType) (outer : List (List ValType))
+    → (code : Code) (watched : ℕ → Bool) (p : ℕ) (from to : List ValType)
     → ProperCode code → Leads (standing m types result) (outer ++ result ∷ []) code from to
     → (h : Here) → HaveTypes h.stack from → StoreKept m z types h.store
     → RunKept m z types (outer ++ result ∷ []) to (run (fixed m z) (nested (fixed m z) depth) (map length (outer ++ result ∷ [])) (marked watched p code) h)
@@ -100,14 +103,17 @@ CallsKeepTypes = (m : Module) → IsValid m → HasNoFloat m → (z : State) (de
 -- So does an invocation, from a state that fits, on arguments of the function's type.
 abbrev pub InvocationsKeepTypes : Type 0
 InvocationsKeepTypes =
-    (m : Module) → IsValid m → HasNoFloat m → (f : ℕ) (F : FuncType) → type_of_func m f ≡ Some F → (s : State) → Fits m s → (args : List Value) → HaveTypes args F.params
+    (m : Module) → IsValid m → HasNoFloat m → (f : ℕ) (F : FuncType) → type_of_func m f ≡ Some F
+    → (s : State) → Fits m s → (args : List Value) → HaveTypes args F.params
     → (depth : ℕ) (watched : ℕ → Bool) → AnswerKept m s [] F.results (invocation m depth watched f args s).answer
 
 -- What it ends with has the types of the function's results, and the final state fits.
 abbrev pub EndsKeepTypes : Type 0
 EndsKeepTypes =
-    (m : Module) → IsValid m → HasNoFloat m → (f : ℕ) (F : FuncType) → type_of_func m f ≡ Some F → (s : State) → Fits m s → (args : List Value) → HaveTypes args F.params
-    → (i : ℕ) (ending : Ending) (final : State) (events : List Event) → Ends m f i args s ending final events → EndingKept F.results ending × StateKept m s final
+    (m : Module) → IsValid m → HasNoFloat m → (f : ℕ) (F : FuncType) → type_of_func m f ≡ Some F
+    → (s : State) → Fits m s → (args : List Value) → HaveTypes args F.params
+    → (i : ℕ) (ending : Ending) (final : State) (events : List Event) → Ends m f i args s ending final events
+    → EndingKept F.results ending × StateKept m s final
 
 pub record RunsKeepTypes : Type 0 where
   pub instructions : InstructionsKeepTypes
