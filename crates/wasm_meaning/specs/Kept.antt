@@ -1,4 +1,4 @@
--- Runs keep types (docs/MEANING.md, "Types").
+-- Runs keep types (docs/MEANING.md, "Outcomes").
 use Rattle.std.specs.Prelude.{◌≡◌, ◌≤◌, ℕ, List, [], ◌∷◌, ◌++◌, Bool, Some, length, map, slice_get, reverse}
 use Rattle.wasm_types.specs.declared.module.ValType.{ValType}
 use Rattle.wasm_types.specs.declared.module.Value.{Value}
