@@ -11,3 +11,6 @@ pub mod Run
 pub mod Invoke
 pub mod Laws
 pub mod Longer
+pub mod Appended
+pub mod Kept
+pub mod Start
