@@ -1,23 +1,49 @@
 -- The rules over positions give what the simulation asks at each instruction.
-use Rattle.std.proofs.Common.{Option, ◌≡◌, ℕ, ◌+◌, ◌-◌, ◌≤◌, ◌<◌, List, [], ◌∷◌, ◌++◌, Bool, true, false, Some, drop, length, slice_get, refl, sym, ap, ◌∙◌, subst, arith, true≢false, length-drop}
+use Rattle.wasm_types.specs.declared.place.Node.TheVariants.{Exit}
+use Rattle.flow_domain.specs.Kept.{NamesIn}
+use Rattle.flow_domain.specs.Presence.{at_exit, left, operand, result, maker, HoldsNeeded}
+use Rattle.std.proofs.Common.{suc, zero, Option, ◌≡◌, ℕ, ◌+◌, ◌-◌, ◌≤◌, ◌<◌, List, [], ◌∷◌, ◌++◌, Bool, true, false, Some, drop, length, slice_get, refl, sym, ap, ◌∙◌, subst, arith, true≢false, length-drop}
 use Rattle.wasm_types.specs.declared.module.ValType.{ValType}
 use Rattle.wasm_types.specs.Marked.{Marked, End, Do, Block, Loop, If, Br, BrIf, BrTable, Return, Unreachable, size}
 use Rattle.wasm_types.specs.declared.instr.Instr.{Instr}
 use Rattle.wasm_types.specs.declared.place.Loc.{Loc}
 use Rattle.flow_domain.specs.Bounds.{written_by, Cover, bounds, writes_at}
 use Rattle.wasm_meaning.specs.Effects.{Fixed, Calls}
-use Rattle.wasm_types.specs.Actions.{callees, takes, leaves}
+use Rattle.wasm_types.specs.Actions.{Callees, callees, takes, leaves}
 use Rattle.wasm_types.specs.Labels.{arity, carried, outermost, Label, block_label, loop_label, arities, point_of, join_of, loop_of, start_of, stop_of, first}
 use Rattle.wasm_types.specs.declared.place.Node.{Node}
 use Rattle.wasm_types.specs.Nodes.{At, Join, named, made, AllIn}
 use Rattle.wasm_types.specs.Sites.{DoHead, IfHead, BrIfHead, BrTableHead, Site, Sites, sites, IsSite, Branches, EndAt, one_end, end_names, inner_ends, all_operands, past, into, branches, Leads, from_at, from_join, carry_names, Among}
 use Rattle.wasm_types.specs.Reaching.{Writes}
 use Rattle.wasm_types.specs.Shadow.{Inside, arms, later, around, looping, InShadow, if_join}
-use Rattle.flow_laws.specs.Cutting.{IsShown}
 use Rattle.flow_domain.specs.Heights.{HasLabel, Shaped}
 use Rattle.flow_laws.proofs.Closed.{Dark, Cuts, DoOk, BlockOk, BrOk, Closed}
 use Rattle.flow_laws.proofs.Stacks.{at, arity-few}
 use Rattle.flow_laws.proofs.Bridge.{Standing, unlit_of, not_both, off-or-on, HasAt, has_front, has_back, length-sites, no_join, writes_only, Nested, nested-sub, skip_of, all_shown, length-named_of, length-made, among_left, among_right, among_end, all_drop}
+
+-- the first so many names, where there are so many, are in a set that each of them is in
+pub all_in : (K : Node → Bool) (n : ℕ) (names : List Node) → n ≤ length names → NamesIn K n names → AllIn K n names
+all_in K zero names le a = tt
+all_in K (suc n) [] le a = absurd (omega arith)
+all_in K (suc n) (d ∷ names) le a = (a 0 d (omega arith) refl, all_in K n names (omega arith) (λ k e lt q. a (suc k) e (omega arith) q))
+
+-- what has to be present in a cut
+pub record IsShown (cs : Callees) (S : Sites) (ends : List EndAt) (K P : Node → Bool) : Type 0 where
+  pub kept : (n : Node) → K n ≡ true → P n ≡ true
+  pub joined : (b : ℕ) → K (At b) ≡ true → P (Join b) ≡ true
+  pub taken : (p : ℕ) (s : Site) → IsSite S p s → K (At p) ≡ true → all_operands cs s.around s.head ≤ length s.names → AllIn P (all_operands cs s.around s.head) s.names
+  pub ended : (e : EndAt) (b : ℕ) → Among ends e → e.owner ≡ Join b → length e.names ≡ e.count → K (At b) ≡ true → AllIn P e.count e.names
+  pub body_end : (e : EndAt) → Among ends e → e.owner ≡ Exit → length e.names ≡ e.count → AllIn P e.count e.names
+
+-- a set that holds what is needed
+pub shown_of : (cs : Callees) (S : Sites) (ends : List EndAt) (K P : Node → Bool) → HoldsNeeded cs S ends K P → IsShown cs S ends K P
+shown_of cs S ends K P holds = record {
+  kept = λ n on. holds n (maker on);
+  joined = λ b on. holds (Join b) (result on);
+  taken = λ p s is on le. all_in P _ s.names le (λ k d lt e. holds d (operand p s is on (k, lt, e)));
+  ended = λ e b a o long on. all_in P e.count e.names (omega arith) (λ k d lt g. holds d (left b e a o on (k, lt, g)));
+  body_end = λ e a o long. all_in P e.count e.names (omega arith) (λ k d lt g. holds d (at_exit e a o (k, lt, g)));
+}
 
 -- what the closure gives at each position
 pub record CutFacts (Z : Fixed) (W : Cover) (G : Calls → Type 0) (S : Sites) (ends : List EndAt) (X : Instr → Type 0) (K M P : Node → Bool) (N : Node → Loc → Type 0) : Type 0 where

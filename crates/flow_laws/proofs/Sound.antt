@@ -10,7 +10,8 @@ use Rattle.wasm_types.specs.Sites.{Sites, EndAt}
 use Rattle.flow_laws.proofs.Callees.{FixedOk}
 use Rattle.flow_laws.proofs.Classical.{NN, agree_stable, done_laws, nat_stable, nn_tests, two_laws}
 use Rattle.flow_laws.proofs.Laws.{Returned, done_from, input_or, one_from, ran}
-use Rattle.flow_laws.proofs.Longer.{longer, Lives}
+use Rattle.wasm_meaning.proofs.Longer.{longer_budget}
+use Rattle.wasm_meaning.specs.Longer.{Lives}
 use Rattle.flow_laws.proofs.Starts.{own_no_host, entry_past, entry_same, some_func}
 use Rattle.wasm_types.specs.Labels.{first}
 use Rattle.flow_laws.specs.Soundness.{AgreeAt, DifferOnly, Omits, entry}
@@ -199,7 +200,7 @@ of_ends m f F args s d results last is e = subst (λ z. EndOf m z args s d resul
 
 -- with more turns the end is the same
 more_end : (m : Module) (F : Func) (args : List Value) (s : State) (d k : ℕ) → d ≤ k → IsReturn (own_run m d unwatched F args s).outcome → own_run m k unwatched F args s ≡ own_run m d unwatched F args s
-more_end m F args s d k le r = longer (fixed m s) d k le (F.results ∷ []) (text F) (entered F args s) (return_lives (own_run m d unwatched F args s).outcome r)
+more_end m F args s d k le r = longer_budget.run_stays (fixed m s) d k le (F.results ∷ []) (text F) (entered F args s) (return_lives (own_run m d unwatched F args s).outcome r)
 
 agree_at : (o : Output) (r r' : Run) (s s' : State) (results results' : List Value) (last last' : State) → r.there.stack ≡ results → r.there.store.state ≡ last → r'.there.stack ≡ results' → r'.there.store.state ≡ last' → AgreeOn o (end_of r (entry [] s)) (end_of r' (entry [] s')) → AgreeAt o results results' last last'
 agree_at Ret r r' s s' results results' last last' g e g' e' a = sym g' ∙ a ∙ g

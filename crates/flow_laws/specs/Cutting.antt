@@ -1,5 +1,6 @@
 -- What is kept for a watched instruction, where a kept call uses only what its needed outputs and its completion depend on.
-use Rattle.std.specs.Prelude.{◌≡◌, ℕ, zero, ◌≤◌, ◌<◌, ◌⊎◌, List, [], ◌∷◌, Bool, true, Option, Some, None, take, length, reverse, slice_get}
+use Rattle.flow_domain.specs.Presence.{HoldsNeeded}
+use Rattle.std.specs.Prelude.{◌≡◌, ℕ, zero, ◌≤◌, ◌<◌, ◌⊎◌, List, [], ◌∷◌, Bool, true, Option, Some, None, take, reverse, slice_get}
 use Rattle.wasm_types.specs.declared.module.ValType.{ValType}
 use Rattle.wasm_types.specs.declared.module.Module.{Module}
 use Rattle.wasm_types.specs.declared.instr.Instr.{Instr}
@@ -11,13 +12,12 @@ use Rattle.wasm_types.specs.declared.place.Loc.TheVariants.{Local}
 use Rattle.flow_domain.specs.Bounds.{written_by, Cover, Bounds, bounds, reads, checks, writes, called, writes_at}
 use Rattle.wasm_types.specs.Locations.{is_outer}
 use Rattle.wasm_meaning.specs.Effects.{fixed}
-use Rattle.wasm_types.specs.Actions.{Callees, callees, Callee, takes}
+use Rattle.wasm_types.specs.Actions.{callees, Callee, takes}
 use Rattle.wasm_meaning.specs.Run.{Here, Run, Outcome, Normal, Branch, run}
 use Rattle.wasm_types.specs.Labels.{arity, carried, arities, join_of}
 use Rattle.wasm_meaning.specs.Invoke.{nested}
 use Rattle.wasm_types.specs.declared.place.Node.{Node}
-use Rattle.wasm_types.specs.Nodes.{At, Join, AllIn}
-use Rattle.wasm_types.specs.declared.place.Node.TheVariants.{Exit}
+use Rattle.wasm_types.specs.Nodes.{At, Join}
 use Rattle.wasm_types.specs.Sites.{Head, DoHead, IfHead, BrIfHead, BrTableHead, Site, Sites, IsSite, Branches, EndAt, body_sites, body_ends, all_operands, carry_names, Leads, Among}
 use Rattle.wasm_types.specs.Reaching.{Writes}
 use Rattle.wasm_types.specs.Shadow.{InShadow}
@@ -59,14 +59,6 @@ pub record IsKept (B : Bounds) (R : CallRows) (S : Sites) (ends : List EndAt) (K
   pub around_join : (b q : ℕ) (s : Site) → IsSite S b s → b < q → q < s.stop → K (Join q) ≡ true → K (At b) ≡ true
   pub own_join : (b : ℕ) → K (Join b) ≡ true → K (At b) ≡ true
 
--- what has to be present in a cut
-pub record IsShown (cs : Callees) (S : Sites) (ends : List EndAt) (K P : Node → Bool) : Type 0 where
-  pub kept : (n : Node) → K n ≡ true → P n ≡ true
-  pub joined : (b : ℕ) → K (At b) ≡ true → P (Join b) ≡ true
-  pub taken : (p : ℕ) (s : Site) → IsSite S p s → K (At p) ≡ true → all_operands cs s.around s.head ≤ length s.names → AllIn P (all_operands cs s.around s.head) s.names
-  pub ended : (e : EndAt) (b : ℕ) → Among ends e → e.owner ≡ Join b → length e.names ≡ e.count → K (At b) ≡ true → AllIn P e.count e.names
-  pub body_end : (e : EndAt) → Among ends e → e.owner ≡ Exit → length e.names ≡ e.count → AllIn P e.count e.names
-
 -- a body returns at its end, or by a branch to its own label
 abbrev pub IsReturn : Outcome → Type 0
 IsReturn Normal = Unit {0}
@@ -86,7 +78,7 @@ AnyInstr op = Unit {0}
 pub record Cuts (B : Bounds) (t : Option ValType) (c : Marked) (K M P : Node → Bool) : Type 0 where
   pub shaped : Shaped (callees B.m) AnyInstr (arity t ∷ []) (arity t) c 0
   pub kept : IsKept B (RowOf B.m (AnyRound B)) (body_sites (callees B.m) (arity t) c) (body_ends (callees B.m) (arity t) c) K M
-  pub shown : IsShown (callees B.m) (body_sites (callees B.m) (arity t) c) (body_ends (callees B.m) (arity t) c) K P
+  pub shown : HoldsNeeded (callees B.m) (body_sites (callees B.m) (arity t) c) (body_ends (callees B.m) (arity t) c) K P
 
 -- Where a body returns, its cut returns from the same start, with the same events and after no more turns.
 abbrev pub SliceFollows : Type 0
