@@ -3,4 +3,5 @@ pub mod ActionLaws
 pub mod HostLaws
 pub mod Instructions
 pub mod Longer
+pub mod Append
 mod Examples

@@ -11,3 +11,4 @@ pub mod Run
 pub mod Invoke
 pub mod Laws
 pub mod Longer
+pub mod Appended
