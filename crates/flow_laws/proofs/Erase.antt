@@ -16,7 +16,7 @@ use Rattle.wasm_types.specs.Funcs.{unwatched}
 use Rattle.flow_laws.proofs.Region.{mk}
 
 -- the sequence with nothing watched
-abbrev bare : Marked → Marked
+abbrev pub bare : Marked → Marked
 bare End = End
 bare (Do m op rest) = Do false op (bare rest)
 bare (Block m kind body rest) = Block false kind (bare body) (bare rest)
@@ -134,7 +134,7 @@ bare_leaf m (instr.I64Const n) rest = refl
 bare_leaf m (instr.Num op) rest = refl
 bare_leaf m (instr.Float op) rest = refl
 
-bare_marked : (w : ℕ → Bool) (code : Code) (p : ℕ) → bare (marked w p code) ≡ marked unwatched p code
+pub bare_marked : (w : ℕ → Bool) (code : Code) (p : ℕ) → bare (marked w p code) ≡ marked unwatched p code
 bare_marked w done p = refl
 bare_marked w (one op rest) p = bare_leaf (w p) op (marked w (p + 1) rest) ∙ ap (leaf false op) (bare_marked w rest (p + 1))
 bare_marked w (block kind body rest) p = ap₂ {A = Marked} {B = Marked} (λ a b. Block false kind a b) (bare_marked w body (p + 1)) (bare_marked w rest (p + 1 + count body))

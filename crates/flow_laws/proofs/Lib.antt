@@ -29,3 +29,6 @@ pub mod Live
 pub mod Fewer
 pub mod CutLaw
 pub mod ReachLaw
+pub mod Once
+pub mod CutCalls
+pub mod SliceReturns

@@ -2,3 +2,4 @@ pub mod Calls
 pub mod Soundness
 pub mod Cutting
 pub mod Exact
+pub mod Slices
