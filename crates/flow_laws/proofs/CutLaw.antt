@@ -20,14 +20,15 @@ use Rattle.flow_laws.proofs.Simulation.{kept-laps, simulate}
 use Rattle.flow_laws.proofs.Sound.{any_round_holds, table_fits}
 use Rattle.flow_laws.proofs.Tasks.{IsCall, call_or, plain_comes, plain_same}
 use Rattle.flow_domain.specs.Cut.{cut}
-use Rattle.flow_laws.specs.Cutting.{AnyInstr, Cuts, Follows, IsKept, IsTest, NeedK, SliceFollows, later, used, used_done, used_final, used_result, IsReturn}
+use Rattle.flow_laws.specs.Cutting.{IsKept, IsTest, NeedK, later, used, used_done, used_final, used_result}
+use Rattle.flow_laws.proofs.Following.{Cuts, Follows, SliceFollows, IsReturn}
 use Rattle.flow_domain.specs.Kept.{NamesIn}
 use Rattle.wasm_types.specs.Labels.{Label, body_label, first, arity}
 use Rattle.wasm_types.specs.Nodes.{AllIn, At}
 use Rattle.wasm_types.specs.declared.place.Node.TheVariants.{Exit}
 use Rattle.wasm_types.specs.declared.place.Node.{Node}
 use Rattle.flow_domain.specs.Rows.{AnyRound, Done, Final, Ret, RowOf, Rows}
-use Rattle.flow_laws.specs.Calls.{DoesLaw, DoneLaw, TwoLaw}
+use Rattle.flow_laws.specs.Calls.{AnyInstr, DoesLaw, DoneLaw, TwoLaw}
 use Rattle.wasm_types.specs.Sites.{BrIfHead, BrTableHead, DoHead, EndAt, Head, IfHead, IsSite, Site, Sites, all_operands, body_ends, body_sites, end_names, from_at, inner_ends, one_end, to_next}
 use Rattle.flow_domain.specs.Bounds.{writes_at, Bounds, Cover, bounds, called, writes}
 use Rattle.wasm_meaning.proofs.Equal.{eq-refl}

@@ -9,7 +9,7 @@ use Rattle.wasm_types.specs.declared.place.Loc.{Loc}
 use Rattle.flow_domain.specs.Bounds.{Cover, bounds}
 use Rattle.wasm_types.specs.Funcs.{Func, func_of, unwatched}
 use Rattle.wasm_meaning.specs.Invoke.{activation, nested}
-use Rattle.flow_laws.specs.Cutting.{IsReturn}
+use Rattle.flow_laws.proofs.Following.{IsReturn}
 use Rattle.flow_domain.specs.Rows.{Output, Done}
 use Rattle.flow_laws.specs.Calls.{ModuleOk}
 use Rattle.flow_laws.specs.Soundness.{DifferOnly, Omits, AgreeAt}

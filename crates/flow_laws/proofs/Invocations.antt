@@ -9,7 +9,7 @@ use Rattle.wasm_meaning.specs.Effects.{fixed}
 use Rattle.wasm_types.specs.declared.run.Event.{Event}
 use Rattle.wasm_types.specs.Funcs.{func_of, Func, unwatched}
 use Rattle.wasm_meaning.specs.Invoke.{Returned, EndsAs, returned, invoked_own, invoked_by, alone, seen_in, nested, entered, calls, invocation, Returns}
-use Rattle.flow_laws.specs.Cutting.{IsReturn}
+use Rattle.flow_laws.proofs.Following.{IsReturn}
 use Rattle.flow_laws.specs.Soundness.{RowsSound, DoneSound}
 use Rattle.flow_laws.proofs.Erase.{Alike, watched_alike}
 use Rattle.flow_laws.proofs.Ends.{OwnEnds, own_run}

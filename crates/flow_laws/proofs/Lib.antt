@@ -32,3 +32,6 @@ pub mod ReachLaw
 pub mod Once
 pub mod CutCalls
 pub mod SliceReturns
+pub mod Heights
+pub mod CallFree
+pub mod Following

@@ -85,7 +85,7 @@ length_match M (d ∷ names) [] vs' m = absurd m
 length_match M (d ∷ names) (v ∷ vs) [] m = absurd m
 length_match M (d ∷ names) (v ∷ vs) (v' ∷ vs') m = ap suc (length_match M names vs vs' m.1)
 
-path_of : (B : Bounds) (S : Sites) (x : Loc) (a b q : Node) → Leads S a b → Enters (written_by B S) S x b q → Path (written_by B S) S x a q
+pub path_of : (B : Bounds) (S : Sites) (x : Loc) (a b q : Node) → Leads S a b → Enters (written_by B S) S x b q → Path (written_by B S) S x a q
 path_of B S x a b q l stands = edge l
 path_of B S x a b q l (steps c m off e) = along b l off (path_of B S x b c q m e)
 

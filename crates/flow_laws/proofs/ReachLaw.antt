@@ -1,4 +1,5 @@
 -- What the functions reached write is a set that the laws ask for.
+use Rattle.flow_laws.proofs.Heights.{own_small, own_heights}
 use Rattle.std.proofs.Common.{◌≡◌, ℕ, inl, inr, List, [], ◌∷◌, true, Option, Some, None, slice_get, refl, sym, true≢false}
 use Rattle.wasm_types.specs.declared.module.FuncType.{FuncType}
 use Rattle.wasm_types.specs.declared.module.Module.{Module}
@@ -14,7 +15,7 @@ use Rattle.wasm_types.specs.Labels.{arity}
 use Rattle.wasm_types.specs.Hosts.{HostFunc, host_writes}
 use Rattle.wasm_types.specs.Funcs.{Func, func_of, text}
 use Rattle.flow_domain.specs.Heights.{Shaped}
-use Rattle.flow_laws.specs.Calls.{OpOk}
+use Rattle.flow_laws.specs.Calls.{AnyInstr, OpOk}
 use Rattle.flow_domain.specs.Reach.{LiveIn, CallsFunc, by_number, by_table, itself, after_call, MayWrite, by_code, by_host, CalleeWrites, WritesExact}
 use Rattle.flow_laws.specs.Exact.{ExactServes}
 
@@ -37,7 +38,7 @@ through_call : (m : Module) (f g : ℕ) (x : Loc) → CallsFunc m f g → MayWri
 through_call m f g x c (by_code h F op a r is l fm w on) = by_code h F op a (after_call g c r) is l fm w on
 through_call m f g x c (by_host h H r is w) = by_host h H (after_call g c r) is w
 
-host_outer : (H : HostFunc) (x : Loc) → host_writes H x ≡ true → is_outer x ≡ true
+pub host_outer : (H : HostFunc) (x : Loc) → host_writes H x ≡ true → is_outer x ≡ true
 host_outer H (Local k) on = absurd (true≢false (sym on))
 host_outer H (Global g) on = refl
 host_outer H Mem on = refl
@@ -72,9 +73,9 @@ module _ (m : Module) (W : Cover) (exact : WritesExact m W) where
   callee_outer (Through t n) x c = writes_outer m c.0 x c.2
 
 pub exact_serves : ExactServes
-exact_serves m W sh exact = record {
-  shaped = λ f F is. shaped_more (callees m) _ (OpOk (bounds m W) f) (text F) (F.results ∷ []) F.results 0 (λ op l. op_ok m W exact f F is op l) (sh.shaped f F is);
-  small = sh.small;
+exact_serves m W valid heights exact = record {
+  shaped = λ f F is. shaped_more (callees m) AnyInstr (OpOk (bounds m W) f) (text F) (F.results ∷ []) F.results 0 (λ op l. op_ok m W exact f F is op l) (own_heights m heights f F is);
+  small = λ f F is. own_small m valid f F is;
   hosts = λ f H is x on. (exact (Own f) x).1 (by_host f H itself is on);
   targets = λ t n f T x on. (exact (Through t n) x).1 (f, T, (exact (Own f) x).0 on);
   outer = λ g x on. callee_outer m W exact g x ((exact g x).0 on);

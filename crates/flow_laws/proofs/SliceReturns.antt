@@ -29,8 +29,9 @@ use Rattle.flow_domain.specs.Heights.{Shaped}
 use Rattle.flow_domain.specs.Presence.{HoldsNeeded}
 use Rattle.flow_domain.specs.Rows.{RowOf, AnyRound}
 use Rattle.flow_domain.specs.Sliced.{context_of, result_type, func_count, watched_once}
-use Rattle.flow_laws.specs.Calls.{ModuleOk, OpOk}
-use Rattle.flow_laws.specs.Cutting.{NeedK, IsKept, IsReturn, Follows, AnyInstr, Cuts}
+use Rattle.flow_laws.specs.Calls.{AnyInstr, ModuleOk, OpOk}
+use Rattle.flow_laws.specs.Cutting.{NeedK, IsKept}
+use Rattle.flow_laws.proofs.Following.{IsReturn, Follows, Cuts}
 use Rattle.flow_laws.specs.Slices.{cut_at, cut_to, IsSliceOf, ReturnsToo, SliceReturns}
 use Rattle.flow_laws.proofs.Starts.{some_func}
 use Rattle.flow_laws.proofs.Sound.{table_fits}

@@ -26,7 +26,7 @@ use Rattle.wasm_meaning.specs.Effects.{Answer, Effect, Fixed, Gives, Stops, fixe
 use Rattle.wasm_types.specs.Actions.{Callee, Own, Through}
 use Rattle.wasm_meaning.specs.Fits.{Fits}
 use Rattle.wasm_types.specs.Hosts.{MayStand, HostFunc}
-use Rattle.flow_laws.specs.Cutting.{IsReturn}
+use Rattle.flow_laws.proofs.Following.{IsReturn}
 use Rattle.wasm_meaning.specs.Invoke.{calls, entered, returned}
 use Rattle.flow_domain.specs.Bounds.{Bounds, Cover, bounds}
 use Rattle.wasm_meaning.specs.Equality.{EqAt}

@@ -1,31 +1,19 @@
 -- What is kept for a watched instruction, where a kept call uses only what its needed outputs and its completion depend on.
-use Rattle.flow_domain.specs.Presence.{HoldsNeeded}
-use Rattle.std.specs.Prelude.{◌≡◌, ℕ, zero, ◌≤◌, ◌<◌, ◌⊎◌, List, [], ◌∷◌, Bool, true, Option, Some, None, take, reverse, slice_get}
-use Rattle.wasm_types.specs.declared.module.ValType.{ValType}
-use Rattle.wasm_types.specs.declared.module.Module.{Module}
+use Rattle.std.specs.Prelude.{◌≡◌, ℕ, ◌<◌, ◌⊎◌, List, Bool, true, Some, None, take, reverse, slice_get}
 use Rattle.wasm_types.specs.declared.instr.Instr.{Instr}
-use Rattle.wasm_types.specs.Marked.{Marked}
-use Rattle.wasm_meaning.specs.State.{State}
-use Rattle.wasm_meaning.specs.Fits.{Fits}
 use Rattle.wasm_types.specs.declared.place.Loc.{Loc}
 use Rattle.wasm_types.specs.declared.place.Loc.TheVariants.{Local}
-use Rattle.flow_domain.specs.Bounds.{written_by, Cover, Bounds, bounds, reads, checks, writes, called, writes_at}
+use Rattle.flow_domain.specs.Bounds.{written_by, Bounds, reads, checks, writes, called, writes_at}
 use Rattle.wasm_types.specs.Locations.{is_outer}
-use Rattle.wasm_meaning.specs.Effects.{fixed}
 use Rattle.wasm_types.specs.Actions.{callees, Callee, takes}
-use Rattle.wasm_meaning.specs.Run.{Here, Run, Outcome, Normal, Branch, run}
-use Rattle.wasm_types.specs.Labels.{arity, carried, arities, join_of}
-use Rattle.wasm_meaning.specs.Invoke.{nested}
+use Rattle.wasm_types.specs.Labels.{carried, arities, join_of}
 use Rattle.wasm_types.specs.declared.place.Node.{Node}
 use Rattle.wasm_types.specs.Nodes.{At, Join}
-use Rattle.wasm_types.specs.Sites.{Head, DoHead, IfHead, BrIfHead, BrTableHead, Site, Sites, IsSite, Branches, EndAt, body_sites, body_ends, all_operands, carry_names, Leads, Among}
+use Rattle.wasm_types.specs.Sites.{Head, DoHead, IfHead, BrIfHead, BrTableHead, Site, Sites, IsSite, Branches, EndAt, all_operands, carry_names, Leads, Among}
 use Rattle.wasm_types.specs.Reaching.{Writes}
 use Rattle.wasm_types.specs.Shadow.{InShadow}
-use Rattle.flow_domain.specs.Heights.{Shaped}
 use Rattle.flow_domain.specs.Kept.{NamesIn}
-use Rattle.flow_domain.specs.Rows.{Ret, Final, Done, CallRows, RowOf, AnyRound}
-use Rattle.flow_laws.specs.Calls.{ModuleOk}
-use Rattle.flow_domain.specs.Cut.{cut_body}
+use Rattle.flow_domain.specs.Rows.{Ret, Final, Done, CallRows}
 
 -- it has a condition or an index
 abbrev pub IsTest : Head → Type 0
@@ -58,32 +46,3 @@ pub record IsKept (B : Bounds) (R : CallRows) (S : Sites) (ends : List EndAt) (K
   pub around_at : (b q : ℕ) (s : Site) → IsSite S b s → b < q → q < s.stop → K (At q) ≡ true → K (At b) ≡ true
   pub around_join : (b q : ℕ) (s : Site) → IsSite S b s → b < q → q < s.stop → K (Join q) ≡ true → K (At b) ≡ true
   pub own_join : (b : ℕ) → K (Join b) ≡ true → K (At b) ≡ true
-
--- a body returns at its end, or by a branch to its own label
-abbrev pub IsReturn : Outcome → Type 0
-IsReturn Normal = Unit {0}
-IsReturn (Branch zero) = Unit {0}
-IsReturn _ = ⊥
-
--- the second run returns where the first does, with the same events and after no more turns
-pub record Follows (r r' : Run) : Type 0 where
-  pub returns : IsReturn r'.outcome
-  pub events : r'.events ≡ r.events
-  pub turns : r'.there.store.state.turns ≤ r.there.store.state.turns
-
-abbrev pub AnyInstr : Instr → Type 0
-AnyInstr op = Unit {0}
-
--- a body, with its result and with one or more positions watched, and sets of nodes that are kept, kept as makers, and present
-pub record Cuts (B : Bounds) (t : Option ValType) (c : Marked) (K M P : Node → Bool) : Type 0 where
-  pub shaped : Shaped (callees B.m) AnyInstr (arity t ∷ []) (arity t) c 0
-  pub kept : IsKept B (RowOf B.m (AnyRound B)) (body_sites (callees B.m) (arity t) c) (body_ends (callees B.m) (arity t) c) K M
-  pub shown : HoldsNeeded (callees B.m) (body_sites (callees B.m) (arity t) c) (body_ends (callees B.m) (arity t) c) K P
-
--- Where a body returns, its cut returns from the same start, with the same events and after no more turns.
-abbrev pub SliceFollows : Type 0
-SliceFollows =
-    (m : Module) (W : Cover) → ModuleOk (bounds m W) → (t : Option ValType) (c : Marked) (K M P : Node → Bool) (T : Node → ValType) → Cuts (bounds m W) t c K M P
-    → (s : State) → Fits m s → (depth : ℕ) (h : Here) → h.stack ≡ []
-    → (let Z = fixed m s in let b = nested Z depth in
-    IsReturn (run Z b (arity t ∷ []) c h).outcome → Follows (run Z b (arity t ∷ []) c h) (run Z b (arity t ∷ []) (cut_body (callees m) K P T t c) h))
