@@ -1,5 +1,5 @@
 -- What an output of a function leads to, in rounds over the rows of the functions called (docs/ANALYSES.md, "Rows").
-use Rattle.std.specs.Prelude.{◌≡◌, ℕ, zero, suc, ◌<◌, ◌⊎◌, List, reverse, Bool, true, false, Option, Some, None, take, length, slice_get}
+use Rattle.std.specs.Prelude.{◌≡◌, ℕ, zero, suc, ◌<◌, ◌⊎◌, List, reverse, Bool, true, false, Some, None, take, length, slice_get}
 use Rattle.wasm_types.specs.declared.module.FuncType.{FuncType}
 use Rattle.wasm_types.specs.declared.module.Module.{Module}
 use Rattle.wasm_types.specs.declared.instr.Instr.{Instr}

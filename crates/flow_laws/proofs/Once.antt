@@ -62,7 +62,7 @@ pointwise_marked w (branch kind x y rest) p =
     let e = p + 1 + count x + count y in (
       refl,
       pointwise-both w (p + 1) f (marks (marked w (p + 1) x)) (marks (marked w f y) ++ marks (marked w e rest)) (omega (arith, length_marked w x (p + 1))) (pointwise_marked w x (p + 1))
-      (pointwise-both w f e (marks (marked w f y)) (marks (marked w e rest)) (omega (arith, length_marked w y f)) (pointwise_marked w y f) (pointwise_marked w rest e)),
+          (pointwise-both w f e (marks (marked w f y)) (marks (marked w e rest)) (omega (arith, length_marked w y f)) (pointwise_marked w y f) (pointwise_marked w rest e)),
     )
 
 -- ---- the marks of sites
@@ -152,7 +152,7 @@ marks_at cs w (If m r x y rest) ctx k p names h =
     let b = pointwise-split w f e (marks y) (marks rest) (omega (arith, length-marks y)) a.1 in (
       h.0,
       marks_are-append w (p + 1) f xs (ys ++ rs) (omega (arith, length-sites cs x (L ∷ ctx) (Join p) (p + 1) [])) (marks_at cs w x (L ∷ ctx) (Join p) (p + 1) [] a.0)
-      (marks_are-append w f e ys rs (omega (arith, length-sites cs y (L ∷ ctx) (Join p) f [])) (marks_at cs w y (L ∷ ctx) (Join p) f [] b.0) (marks_at cs w rest ctx k e (named (arity r) (Join p) (drop 1 names)) b.1)),
+          (marks_are-append w f e ys rs (omega (arith, length-sites cs y (L ∷ ctx) (Join p) f [])) (marks_at cs w y (L ∷ ctx) (Join p) f [] b.0) (marks_at cs w rest ctx k e (named (arity r) (Join p) (drop 1 names)) b.1)),
     )
 marks_at cs w (Br m l rest) ctx k p names h = (h.0, marks_are-dead w (p + 1) (size rest))
 marks_at cs w (BrIf m l rest) ctx k p names h = (h.0, marks_at cs w rest ctx k (p + 1) (drop 1 names) h.1)
