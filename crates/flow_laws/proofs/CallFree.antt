@@ -96,73 +96,77 @@ test_takes cs UnreachableHead t = absurd t
 
 -- ---- one body
 
-module _ (B : Bounds) (S : Sites) (ends : List EndAt) (K : Node → Bool) (silent : CallsNothing (callees B.m) S) (cl : IsClosedAlone (callees B.m) S ends K) where
-  abbrev W : Table
-  W = WritesAt (callees B.m) no_calls S
+module _ (B : Bounds) (S : Sites) (ends : List EndAt) (K : Node → Bool) (silent : CallsNothing (callees B.m) S) (cl : IsClosedAlone (callees B.m) S ends K)
+  where
+    abbrev W : Table
+    W = WritesAt (callees B.m) no_calls S
 
-  abbrev R : CallRows
-  R = RowOf B.m (AnyRound B)
+    abbrev R : CallRows
+    R = RowOf B.m (AnyRound B)
 
-  no_call : {A : Type 0} (p : ℕ) (g : Callee) (s : Site) (op : Instr) → IsSite S p s → s.head ≡ DoHead op → called B op ≡ Some g → A
-  no_call p g s op is hd c = a_callee g (sym c ∙ silent p s op is hd)
+    no_call : {A : Type 0} (p : ℕ) (g : Callee) (s : Site) (op : Instr) → IsSite S p s → s.head ≡ DoHead op → called B op ≡ Some g → A
+    no_call p g s op is hd c = a_callee g (sym c ∙ silent p s op is hd)
 
-  -- both tables tell the same
-  to_table : (p : ℕ) (x : Loc) → written_by B S p x → W p x
-  to_table p x w =
-      let o = wrote B w.0.head x w.2 in
-      record { site = w.0; is = w.1; writes = subst (λ h. HeadWrites (callees B.m) no_calls h x) (sym o.is) (to_writes B.cover (task_of (callees B.m) o.op) x (silent p w.0 o.op w.1 o.is) (ap (λ h. writes_at B h x) (sym o.is) ∙ w.2)) }
+    -- both tables tell the same
+    to_table : (p : ℕ) (x : Loc) → written_by B S p x → W p x
+    to_table p x w =
+        let o = wrote B w.0.head x w.2 in
+        record { site = w.0; is = w.1; writes = subst (λ h. HeadWrites (callees B.m) no_calls h x) (sym o.is) (to_writes B.cover (task_of (callees B.m) o.op) x (silent p w.0 o.op w.1 o.is) (ap (λ h. writes_at B h x) (sym o.is) ∙ w.2)) }
 
-  from_table : (x : Loc) (n : Node) → Writes W x n → Writes (written_by B S) x n
-  from_table x n (writes_it w) = writes_it (w.site, w.is, head_from B w.site.head x w.writes)
+    from_table : (x : Loc) (n : Node) → Writes W x n → Writes (written_by B S) x n
+    from_table x n (writes_it w) = writes_it (w.site, w.is, head_from B w.site.head x w.writes)
 
-  to_path : (x : Loc) (a b : Node) → Path (written_by B S) S x a b → Path W S x a b
-  to_path x a b (edge l) = edge l
-  to_path x a b (along c l off p) = along c l (λ w. off (from_table x c w)) (to_path x c b p)
+    to_path : (x : Loc) (a b : Node) → Path (written_by B S) S x a b → Path W S x a b
+    to_path x a b (edge l) = edge l
+    to_path x a b (along c l off p) = along c l (λ w. off (from_table x c w)) (to_path x c b p)
 
-  -- a need leads to a use
-  record Use (a : Node) (x : Loc) : Type 0 where
-    pub place : ℕ
-    pub kept : K (At place) ≡ true
-    pub uses : UsesAt (callees B.m) no_calls S place x
-    pub enters : Enters (written_by B S) S x a (At place)
+    -- a need leads to a use
+    record Use (a : Node) (x : Loc) : Type 0 where
+      pub place : ℕ
+      pub kept : K (At place) ≡ true
+      pub uses : UsesAt (callees B.m) no_calls S place x
+      pub enters : Enters (written_by B S) S x a (At place)
 
-  use_of : (p : ℕ) (s : Site) (op : Instr) (x : Loc) → IsSite S p s → s.head ≡ DoHead op → (reads B op x ≡ true) ⊎ (checks B op x ≡ true) → UsesAt (callees B.m) no_calls S p x
-  use_of p s op x is hd u = record { site = s; is = is; uses = subst (λ h. HeadReads (callees B.m) h x ⊎ HeadChecks (callees B.m) no_calls h x) (sym hd) (go u) }
-    where
-      go : (reads B op x ≡ true) ⊎ (checks B op x ≡ true) → TaskReads (task_of (callees B.m) op) x ⊎ TaskChecks no_calls (task_of (callees B.m) op) x
-      go (inl r) = inl (to_reads (task_of (callees B.m) op) x r)
-      go (inr c) = inr (to_checks B.cover (task_of (callees B.m) op) x (silent p s op is hd) c)
+    use_of : (p : ℕ) (s : Site) (op : Instr) (x : Loc) → IsSite S p s → s.head ≡ DoHead op → (reads B op x ≡ true) ⊎ (checks B op x ≡ true)
+        → UsesAt (callees B.m) no_calls S p x
+    use_of p s op x is hd u =
+        record { site = s; is = is; uses = subst (λ h. HeadReads (callees B.m) h x ⊎ HeadChecks (callees B.m) no_calls h x) (sym hd) (go u) }
+      where
+        go : (reads B op x ≡ true) ⊎ (checks B op x ≡ true) → TaskReads (task_of (callees B.m) op) x ⊎ TaskChecks no_calls (task_of (callees B.m) op) x
+        go (inl r) = inl (to_reads (task_of (callees B.m) op) x r)
+        go (inr c) = inr (to_checks B.cover (task_of (callees B.m) op) x (silent p s op is hd) c)
 
-  used_at : (a : Node) (x : Loc) → NeedK B R S K K a x → Use a x
-  used_at a x (used {p = p} s op is hd n on u) = record { place = p; kept = on; uses = use_of p s op x is hd u; enters = stands }
-  used_at a x (used_done {p = p} g s op is hd n on row out) = no_call p g s op is hd n
-  used_at a x (used_result {p = p} g s op is hd n on row out) = no_call p g s op is hd n
-  used_at a x (used_final {p = p} g y s op is hd n w nd row out) = no_call p g s op is hd n
-  used_at a x (later b l off nd) = let u = used_at b x nd in record { place = u.place; kept = u.kept; uses = u.uses; enters = steps b l off u.enters }
+    used_at : (a : Node) (x : Loc) → NeedK B R S K K a x → Use a x
+    used_at a x (used {p = p} s op is hd n on u) = record { place = p; kept = on; uses = use_of p s op x is hd u; enters = stands }
+    used_at a x (used_done {p = p} g s op is hd n on row out) = no_call p g s op is hd n
+    used_at a x (used_result {p = p} g s op is hd n on row out) = no_call p g s op is hd n
+    used_at a x (used_final {p = p} g y s op is hd n w nd row out) = no_call p g s op is hd n
+    used_at a x (later b l off nd) = let u = used_at b x nd in record { place = u.place; kept = u.kept; uses = u.uses; enters = steps b l off u.enters }
 
-  reached : (p : ℕ) (x : Loc) (s : Site) → IsSite S p s → writes_at B s.head x ≡ true → NeedK B R S K K s.next x → K (At p) ≡ true
-  reached p x s is w nd =
-      let o = wrote B s.head x w in
-      let u = used_at s.next x nd in
-      cl.reaches p u.place x u.kept u.uses (writes_it (to_table p x (s, is, w))) (to_path x (At p) (At u.place) (path_of B S x (At p) s.next (At u.place) (from_at s is (to_next o.op o.is)) u.enters))
+    reached : (p : ℕ) (x : Loc) (s : Site) → IsSite S p s → writes_at B s.head x ≡ true → NeedK B R S K K s.next x → K (At p) ≡ true
+    reached p x s is w nd =
+        let o = wrote B s.head x w in
+        let u = used_at s.next x nd in
+        cl.reaches p u.place x u.kept u.uses (writes_it (to_table p x (s, is, w)))
+        (to_path x (At p) (At u.place) (path_of B S x (At p) s.next (At u.place) (from_at s is (to_next o.op o.is)) u.enters))
 
-  pub closed_kept : IsKept B R S ends K K
-  closed_kept = record {
-    makers = λ d on. on;
-    watched = cl.watched;
-    operands = λ p s op is hd n on. (on, subst (λ z. NamesIn K z s.names) (ap (operand_count (callees B.m)) hd) (cl.operands p s is on));
-    tests = λ p s is on t. subst (λ z. NamesIn K z s.names) (test_takes (callees B.m) s.head t) (cl.operands p s is on);
-    args_done = λ p k g d s op is hd n on row e. no_call p g s op is hd n;
-    args_result = λ p k g d s op is hd n on row e. no_call p g s op is hd n;
-    args_final = λ p k g y d s op is hd n w nd row e. no_call p g s op is hd n;
-    reaches = reached;
-    shadows = cl.shadows;
-    carries = cl.carries;
-    live_ends = cl.live_ends;
-    around_at = cl.around_at;
-    around_join = cl.around_join;
-    own_join = cl.own_join;
-  }
+    pub closed_kept : IsKept B R S ends K K
+    closed_kept = record {
+      makers = λ d on. on;
+      watched = cl.watched;
+      operands = λ p s op is hd n on. (on, subst (λ z. NamesIn K z s.names) (ap (operand_count (callees B.m)) hd) (cl.operands p s is on));
+      tests = λ p s is on t. subst (λ z. NamesIn K z s.names) (test_takes (callees B.m) s.head t) (cl.operands p s is on);
+      args_done = λ p k g d s op is hd n on row e. no_call p g s op is hd n;
+      args_result = λ p k g d s op is hd n on row e. no_call p g s op is hd n;
+      args_final = λ p k g y d s op is hd n w nd row e. no_call p g s op is hd n;
+      reaches = reached;
+      shadows = cl.shadows;
+      carries = cl.carries;
+      live_ends = cl.live_ends;
+      around_at = cl.around_at;
+      around_join = cl.around_join;
+      own_join = cl.own_join;
+    }
 
 pub closed_serves : ClosedServes
 closed_serves B S ends K silent cl = closed_kept B S ends K silent cl
@@ -175,14 +179,18 @@ all_outer = record { writes = λ g x. is_outer x; touch = λ g x. is_outer x }
 
 outer_ok : (m : Module) → IsValid m → HasHeights m → ModuleOk (bounds m all_outer)
 outer_ok m valid heights = record {
-  shaped = λ f F is. shaped_more (callees m) AnyInstr (OpOk (bounds m all_outer) f) (text F) (F.results ∷ []) F.results 0 (λ op l x on out. out) (own_heights m heights f F is);
+  shaped =
+      λ f F is. shaped_more (callees m) AnyInstr (OpOk (bounds m all_outer) f) (text F) (F.results ∷ []) F.results 0 (λ op l x on out. out)
+      (own_heights m heights f F is);
   small = λ f F is. own_small m valid f F is;
   hosts = λ f H is x on. host_outer H x on;
   targets = λ t n f T x on. on;
   outer = λ g x on. on;
 }
 
-slice_by : (m : Module) (f i : ℕ) (name : Name) (new : Module) (at : ℕ) (sl : IsSliced m f i name new at) → CallsNothing (callees m) (sites_at (callees m) sl.kind sl.body i) → IsClosedAlone (callees m) (sites_at (callees m) sl.kind sl.body i) (ends_at (callees m) sl.kind sl.body i) sl.kept → IsSliceOf m all_outer f i new at
+slice_by : (m : Module) (f i : ℕ) (name : Name) (new : Module) (at : ℕ) (sl : IsSliced m f i name new at)
+    → CallsNothing (callees m) (sites_at (callees m) sl.kind sl.body i)
+    → IsClosedAlone (callees m) (sites_at (callees m) sl.kind sl.body i) (ends_at (callees m) sl.kind sl.body i) sl.kept → IsSliceOf m all_outer f i new at
 slice_by m f i name new at sl silent cl = record {
   type = sl.type;
   own = sl.own;
@@ -199,10 +207,13 @@ slice_by m f i name new at sl silent cl = record {
   rules = closed_kept (bounds m all_outer) (sites_at (callees m) sl.kind sl.body i) (ends_at (callees m) sl.kind sl.body i) sl.kept silent cl;
   holds = λ n nd. refl;
   exports = record { name = name; kind = export.Func; index = func_count m } ∷ [];
-  only = All-cons (λ (e : Export). e.kind ≡ export.Func) (record { name = name; kind = export.Func; index = func_count m }) [] refl (All-nil (λ (e : Export). e.kind ≡ export.Func));
+  only =
+      All-cons (λ (e : Export). e.kind ≡ export.Func) (record { name = name; kind = export.Func; index = func_count m }) [] refl
+      (All-nil (λ (e : Export). e.kind ≡ export.Func));
   is = sl.is;
   at_is = sl.at_is;
 }
 
 pub sliced_returns : SlicedReturns
-sliced_returns m valid heights f i name new at sl silent cl = slice_returns m all_outer valid (outer_ok m valid heights) f i new at (slice_by m f i name new at sl silent cl)
+sliced_returns m valid heights f i name new at sl silent cl =
+    slice_returns m all_outer valid (outer_ok m valid heights) f i new at (slice_by m f i name new at sl silent cl)

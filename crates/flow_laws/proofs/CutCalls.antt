@@ -45,21 +45,30 @@ module _ (m : Module) (K P : Node → Bool) (T : Node → ValType) where
   old_cut (Block k r body rest) t p names o =
       let c = cut (callees m) K P T t rest (p + 1 + size body) (named (arity r) (Join p) names) in
       let x = old_cut rest t (p + 1 + size body) (named (arity r) (Join p) names) o.1 in
-      old_pick m (K (At p)) (Block k r (cut (callees m) K P T r body (p + 1) []) c) (filler P r (Join p) c) (old_cut body r (p + 1) [] o.0, x) (old_filler m P r (Join p) c x)
+      old_pick m (K (At p)) (Block k r (cut (callees m) K P T r body (p + 1) []) c) (filler P r (Join p) c) (old_cut body r (p + 1) [] o.0, x)
+      (old_filler m P r (Join p) c x)
   old_cut (Loop k r body rest) t p names o =
       let c = cut (callees m) K P T t rest (p + 1 + size body) (named (arity r) (Join p) names) in
       let x = old_cut rest t (p + 1 + size body) (named (arity r) (Join p) names) o.1 in
-      old_pick m (K (At p)) (Loop k r (cut (callees m) K P T r body (p + 1) []) c) (filler P r (Join p) c) (old_cut body r (p + 1) [] o.0, x) (old_filler m P r (Join p) c x)
+      old_pick m (K (At p)) (Loop k r (cut (callees m) K P T r body (p + 1) []) c) (filler P r (Join p) c) (old_cut body r (p + 1) [] o.0, x)
+      (old_filler m P r (Join p) c x)
   old_cut (If k r x y rest) t p names o =
       let c = cut (callees m) K P T t rest (p + 1 + size x + size y) (named (arity r) (Join p) (drop 1 names)) in
       let z = old_cut rest t (p + 1 + size x + size y) (named (arity r) (Join p) (drop 1 names)) o.2 in
       let n = shown P (take 1 names) in
-      old_pick m (K (At p)) (If k r (cut (callees m) K P T r x (p + 1) []) (cut (callees m) K P T r y (p + 1 + size x) []) c) (drops n (filler P r (Join p) c)) (old_cut x r (p + 1) [] o.0, old_cut y r (p + 1 + size x) [] o.1, z) (old_drops m n (filler P r (Join p) c) (old_filler m P r (Join p) c z))
-  old_cut (Br k l rest) t p names o = old_pick m (K (At p)) (Br k l End) (drops (shown P names) (zeros t End)) tt (old_drops m (shown P names) (zeros t End) (old_zeros m t End tt))
+      old_pick m (K (At p)) (If k r (cut (callees m) K P T r x (p + 1) []) (cut (callees m) K P T r y (p + 1 + size x) []) c)
+      (drops n (filler P r (Join p) c)) (old_cut x r (p + 1) [] o.0, old_cut y r (p + 1 + size x) [] o.1, z)
+      (old_drops m n (filler P r (Join p) c) (old_filler m P r (Join p) c z))
+  old_cut (Br k l rest) t p names o =
+      old_pick m (K (At p)) (Br k l End) (drops (shown P names) (zeros t End)) tt (old_drops m (shown P names) (zeros t End) (old_zeros m t End tt))
   old_cut (BrIf k l rest) t p names o =
       let c = cut (callees m) K P T t rest (p + 1) (drop 1 names) in
       let r = old_cut rest t (p + 1) (drop 1 names) o in
       old_pick m (K (At p)) (BrIf k l c) (drops (shown P (take 1 names)) c) r (old_drops m (shown P (take 1 names)) c r)
-  old_cut (BrTable k labels other rest) t p names o = old_pick m (K (At p)) (BrTable k labels other End) (drops (shown P names) (zeros t End)) tt (old_drops m (shown P names) (zeros t End) (old_zeros m t End tt))
-  old_cut (Return k rest) t p names o = old_pick m (K (At p)) (Return k End) (drops (shown P names) (zeros t End)) tt (old_drops m (shown P names) (zeros t End) (old_zeros m t End tt))
-  old_cut (Unreachable k rest) t p names o = old_pick m (K (At p)) (Unreachable k End) (drops (shown P names) (zeros t End)) tt (old_drops m (shown P names) (zeros t End) (old_zeros m t End tt))
+  old_cut (BrTable k labels other rest) t p names o =
+      old_pick m (K (At p)) (BrTable k labels other End) (drops (shown P names) (zeros t End)) tt
+      (old_drops m (shown P names) (zeros t End) (old_zeros m t End tt))
+  old_cut (Return k rest) t p names o =
+      old_pick m (K (At p)) (Return k End) (drops (shown P names) (zeros t End)) tt (old_drops m (shown P names) (zeros t End) (old_zeros m t End tt))
+  old_cut (Unreachable k rest) t p names o =
+      old_pick m (K (At p)) (Unreachable k End) (drops (shown P names) (zeros t End)) tt (old_drops m (shown P names) (zeros t End) (old_zeros m t End tt))

@@ -67,7 +67,8 @@ pub record Lawful (B : Bounds) (R : Rows) (c : Calls) : Type 0 where
   pub two : TwoLaw R B.m c
   pub done : DoneLaw R B.m c
 
-module _ (Z : Fixed) (W : Cover) (R : Rows) (ok : FixedOk Z W) (S : Sites) (ends : List EndAt) (K M P : Node → Bool) (ke : IsKept (bounds Z.m W) (RowOf Z.m R) S ends K M) (sh : IsShown (callees Z.m) S ends K P) (stand : Standing S K) where
+module _ (Z : Fixed) (W : Cover) (R : Rows) (ok : FixedOk Z W) (S : Sites) (ends : List EndAt) (K M P : Node → Bool)
+    (ke : IsKept (bounds Z.m W) (RowOf Z.m R) S ends K M) (sh : IsShown (callees Z.m) S ends K P) (stand : Standing S K) where
   abbrev B : Bounds
   B = bounds Z.m W
 
@@ -77,13 +78,18 @@ module _ (Z : Fixed) (W : Cover) (R : Rows) (ok : FixedOk Z W) (S : Sites) (ends
   abbrev G : Calls → Type 0
   G c = Lawful B R c
 
-  all_args : (p : ℕ) (s : Site) (op : Instr) → IsSite S p s → s.head ≡ DoHead op → called B op ≡ None → K (At p) ≡ true → (vs vs' : List Value) → Matches M (take (takes (callees Z.m) op) s.names) vs vs' → vs' ≡ vs
-  all_args p s op is hd n on vs vs' ma = all_match M (take (takes (callees Z.m) op) s.names) vs vs' (λ k d g. get_all M (takes (callees Z.m) op) k s.names d (ke.operands p s op is hd n on).1 g) ma
+  all_args : (p : ℕ) (s : Site) (op : Instr) → IsSite S p s → s.head ≡ DoHead op → called B op ≡ None → K (At p) ≡ true → (vs vs' : List Value)
+      → Matches M (take (takes (callees Z.m) op) s.names) vs vs' → vs' ≡ vs
+  all_args p s op is hd n on vs vs' ma =
+      all_match M (take (takes (callees Z.m) op) s.names) vs vs' (λ k d g. get_all M (takes (callees Z.m) op) k s.names d (ke.operands p s op is hd n on).1 g)
+      ma
 
   mp : (d : Node) → M d ≡ true → P d ≡ true
   mp d on = sh.kept d (ke.makers d on)
 
-  come : (p : ℕ) (s : Site) (op : Instr) → IsSite S p s → s.head ≡ DoHead op → (g : Callee) → called B op ≡ Some g → IsCall (callees Z.m) op g → K (At p) ≡ true → (c : Calls) → G c → (vs vs' : List Value) (st st' : Store) (e : Effect) → Matches M (take (takes (callees Z.m) op) s.names) vs vs' → ((x : Loc) → N (At p) x → EqAt x st st') → effect Z c op vs st ≡ Gives e → Comes Z c op vs' st st' e
+  come : (p : ℕ) (s : Site) (op : Instr) → IsSite S p s → s.head ≡ DoHead op → (g : Callee) → called B op ≡ Some g → IsCall (callees Z.m) op g
+      → K (At p) ≡ true → (c : Calls) → G c → (vs vs' : List Value) (st st' : Store) (e : Effect) → Matches M (take (takes (callees Z.m) op) s.names) vs vs'
+      → ((x : Loc) → N (At p) x → EqAt x st st') → effect Z c op vs st ≡ Gives e → Comes Z c op vs' st st' e
   come p s op is hd g n cc on c good vs vs' st st' e ma eq q = kept_comes Z W R ok M N p s.names s.next op g cc c good.done uses vs vs' st st' e ma eq q
     where
       uses : UsesRow Z W R ok M N p s.names s.next op g cc Done
@@ -93,8 +99,11 @@ module _ (Z : Fixed) (W : Cover) (R : Rows) (ok : FixedOk Z W) (S : Sites) (ends
       uses Size row = used_done g s op is hd n on row refl
       uses Host row = used_done g s op is hd n on row refl
 
-  agree_call : (p : ℕ) (s : Site) (op : Instr) → IsSite S p s → s.head ≡ DoHead op → (g : Callee) → called B op ≡ Some g → IsCall (callees Z.m) op g → (c : Calls) → G c → (vs vs' : List Value) (st st' : Store) (e e' : Effect) → Matches M (take (takes (callees Z.m) op) s.names) vs vs' → ((x : Loc) → N (At p) x → EqAt x st st') → effect Z c op vs st ≡ Gives e → effect Z c op vs' st' ≡ Gives e' → Agreed B op (M (At p)) (N s.next) e e'
-  agree_call p s op is hd g n cc c good vs vs' st st' e e' ma eq q q' = kept_agrees Z W R ok M N p s.names s.next op g cc c good.two ret fin vs vs' st st' e e' ma eq q q'
+  agree_call : (p : ℕ) (s : Site) (op : Instr) → IsSite S p s → s.head ≡ DoHead op → (g : Callee) → called B op ≡ Some g → IsCall (callees Z.m) op g
+      → (c : Calls) → G c → (vs vs' : List Value) (st st' : Store) (e e' : Effect) → Matches M (take (takes (callees Z.m) op) s.names) vs vs'
+      → ((x : Loc) → N (At p) x → EqAt x st st') → effect Z c op vs st ≡ Gives e → effect Z c op vs' st' ≡ Gives e' → Agreed B op (M (At p)) (N s.next) e e'
+  agree_call p s op is hd g n cc c good vs vs' st st' e e' ma eq q q' =
+      kept_agrees Z W R ok M N p s.names s.next op g cc c good.two ret fin vs vs' st st' e e' ma eq q q'
     where
       ret : M (At p) ≡ true → UsesRow Z W R ok M N p s.names s.next op g cc Ret
       ret m (Local k) row = λ d e1. ke.args_result p k g d s op is hd n m row e1
@@ -110,18 +119,25 @@ module _ (Z : Fixed) (W : Cover) (R : Rows) (ok : FixedOk Z W) (S : Sites) (ends
       fin y nd w Size row = used_final g y s op is hd n w nd row refl
       fin y nd w Host row = used_final g y s op is hd n w nd row refl
 
-  do_ok : (p : ℕ) (s : Site) (op : Instr) → IsSite S p s → s.head ≡ DoHead op → takes (callees Z.m) op ≤ length s.names → leaves (callees Z.m) op ≤ 1 → DoOk Z W G mode.Cuts K M P N s.mark op p s.names s.next
+  do_ok : (p : ℕ) (s : Site) (op : Instr) → IsSite S p s → s.head ≡ DoHead op → takes (callees Z.m) op ≤ length s.names → leaves (callees Z.m) op ≤ 1
+      → DoOk Z W G mode.Cuts K M P N s.mark op p s.names s.next
   do_ok p s op is hd enough few = record {
     does = λ c g vs st e q. op_does Z W ok c g.does op vs st e q;
     few = few;
     enough = enough;
     marks = λ on. ke.makers (At p) (ke.watched p s is on).0;
-    watched = λ on. (all_in M (takes (callees Z.m) op) s.names enough (subst (λ z. NamesIn M z s.names) (ap (λ z. all_operands (callees Z.m) s.around z) hd) (ke.watched p s is on).1), (ke.watched p s is on).0);
-    shows = λ on. (subst (λ z. AllIn P z s.names) (ap (λ z. all_operands (callees Z.m) s.around z) hd) (sh.taken p s is on (let e : all_operands (callees Z.m) s.around s.head ≡ takes (callees Z.m) op = ap (λ z. all_operands (callees Z.m) s.around z) hd in omega arith)), sh.kept (At p) on);
+    watched =
+        λ on.
+        (all_in M (takes (callees Z.m) op) s.names enough (subst (λ z. NamesIn M z s.names) (ap (λ z. all_operands (callees Z.m) s.around z) hd) (ke.watched p s is on).1), (ke.watched p s is on).0);
+    shows =
+        λ on.
+        (subst (λ z. AllIn P z s.names) (ap (λ z. all_operands (callees Z.m) s.around z) hd) (sh.taken p s is on (let e : all_operands (callees Z.m) s.around s.head ≡ takes (callees Z.m) op = ap (λ z. all_operands (callees Z.m) s.around z) hd in omega arith)), sh.kept (At p) on);
     total = λ st. absurd (true≢false (sym st));
     comes = λ f on c g vs vs' st st' e ma eq q. call_or B op
         (λ n.
-        plain_comes Z W c op vs vs' st st' e n (length_match M (take (takes (callees Z.m) op) s.names) vs vs' ma) (λ k tr. arg_same M (take (takes (callees Z.m) op) s.names) vs vs' k ma (λ x g1. get_all M (takes (callees Z.m) op) k s.names x (ke.operands p s op is hd n on).1 g1)) (λ x ch. eq x (used s op is hd n on (inr ch))) q)
+        plain_comes Z W c op vs vs' st st' e n (length_match M (take (takes (callees Z.m) op) s.names) vs vs' ma)
+        (λ k tr. arg_same M (take (takes (callees Z.m) op) s.names) vs vs' k ma
+        (λ x g1. get_all M (takes (callees Z.m) op) k s.names x (ke.operands p s op is hd n on).1 g1)) (λ x ch. eq x (used s op is hd n on (inr ch))) q)
         (λ h n cc. come p s op is hd h n cc on c g vs vs' st st' e ma eq q);
     agree = λ on c g vs vs' st st' e e' ma eq q q'. call_or B op
         (λ n. let same = plain_same Z W c op vs st st' e e' n (λ x rd. eq x (used s op is hd n on (inl rd))) q (subst (λ z. effect Z c op z st' ≡ Gives e') (all_args p s op is hd n on vs vs' ma) q') in
@@ -152,7 +168,8 @@ module _ (Z : Fixed) (W : Cover) (R : Rows) (ok : FixedOk Z W) (S : Sites) (ends
     before = λ a b x l off nd. later b l off nd;
   }
 
-read_off : (K M : Node → Bool) (N : Node → Loc → Type 0) (t e : ℕ) (o : Outcome) (h : Here) (es : List Event) (o' : Outcome) (h' : Here) (es' : List Event) → Sim K M N (body_label t e ∷ []) e t Exit (mk o h es) (mk o' h' es') → IsReturn o → Follows (mk o h es) (mk o' h' es')
+read_off : (K M : Node → Bool) (N : Node → Loc → Type 0) (t e : ℕ) (o : Outcome) (h : Here) (es : List Event) (o' : Outcome) (h' : Here) (es' : List Event)
+    → Sim K M N (body_label t e ∷ []) e t Exit (mk o h es) (mk o' h' es') → IsReturn o → Follows (mk o h es) (mk o' h' es')
 read_off K M N t e Normal h es Normal h' es' a r = record { returns = tt; events = a.events; turns = a.store.turns }
 read_off K M N t e Normal h es (Branch l') h' es' a r = absurd a
 read_off K M N t e Normal h es (Stopped why) h' es' a r = absurd a
@@ -164,7 +181,11 @@ read_off K M N t e (Branch (suc l)) h es o' h' es' a r = absurd r
 read_off K M N t e (Stopped why) h es o' h' es' a r = absurd r
 
 -- what the simulation asks of a body
-pub body_closed : (Z : Fixed) (W : Cover) → FixedOk Z W → (t : Option ValType) (c : Marked) (K M P : Node → Bool) → Cuts (bounds Z.m W) t c K M P → Standing (body_sites (callees Z.m) (arity t) c) K → Closed Z W (Lawful (bounds Z.m W) (AnyRound (bounds Z.m W))) mode.Cuts K M P (NeedK (bounds Z.m W) (RowOf Z.m (AnyRound (bounds Z.m W))) (body_sites (callees Z.m) (arity t) c) K M) (body_label (arity t) (size c) ∷ []) true Exit (arity t) c 0 []
+pub body_closed : (Z : Fixed) (W : Cover) → FixedOk Z W → (t : Option ValType) (c : Marked) (K M P : Node → Bool) → Cuts (bounds Z.m W) t c K M P
+    → Standing (body_sites (callees Z.m) (arity t) c) K
+    → Closed Z W (Lawful (bounds Z.m W) (AnyRound (bounds Z.m W))) mode.Cuts K M P
+    (NeedK (bounds Z.m W) (RowOf Z.m (AnyRound (bounds Z.m W))) (body_sites (callees Z.m) (arity t) c) K M) (body_label (arity t) (size c) ∷ []) true Exit
+    (arity t) c 0 []
 body_closed Z W ok t c K M P cu stand = closed
   where
     B : Bounds
@@ -194,19 +215,28 @@ body_closed Z W ok t c K M P cu stand = closed
     G : Calls → Type 0
     G k = Lawful B R k
 
-    exit_rule : (ns : List Node) → end_names (callees Z.m) c 0 [] ≡ Some ns → length ns ≡ arity t → (M Exit ≡ true → AllIn M (arity t) ns) × (true ≡ true → AllIn P (arity t) ns)
+    exit_rule : (ns : List Node) → end_names (callees Z.m) c 0 [] ≡ Some ns → length ns ≡ arity t
+        → (M Exit ≡ true → AllIn M (arity t) ns) × (true ≡ true → AllIn P (arity t) ns)
     exit_rule ns e long =
-        let a = among_left (one_end Exit (arity t) (end_names (callees Z.m) c 0 [])) (inner_ends (callees Z.m) c 0 []) _ (among_end Exit (arity t) ns (end_names (callees Z.m) c 0 []) e) in
+        let a =
+        among_left (one_end Exit (arity t) (end_names (callees Z.m) c 0 [])) (inner_ends (callees Z.m) c 0 []) _
+        (among_end Exit (arity t) ns (end_names (callees Z.m) c 0 []) e) in
         ((λ on. all_in M (arity t) ns (omega arith) (ke.live_ends _ a on)), (λ on. sh.body_end _ a refl long))
 
     closed : Closed Z W G mode.Cuts K M P N ctx true Exit (arity t) c 0 []
-    closed = cut_closed_of Z W G S E AnyInstr K M P N (cut_facts Z W R ok S E K M P cu.kept sh stand) sh c ctx Exit (arity t) 0 [] (has_all [] S 0 refl) cu.shaped (omega arith, tt) true exit_rule (λ z a. among_right (one_end Exit (arity t) (end_names (callees Z.m) c 0 [])) (inner_ends (callees Z.m) c 0 []) z a)
+    closed =
+        cut_closed_of Z W G S E AnyInstr K M P N (cut_facts Z W R ok S E K M P cu.kept sh stand) sh c ctx Exit (arity t) 0 [] (has_all [] S 0 refl) cu.shaped
+        (omega arith, tt) true exit_rule (λ z a. among_right (one_end Exit (arity t) (end_names (callees Z.m) c 0 [])) (inner_ends (callees Z.m) c 0 []) z a)
 
 -- a body returns, and so does its cut
-pub body_follows : (Z : Fixed) (W : Cover) → FixedOk Z W → (t : Option ValType) (c : Marked) (K M P : Node → Bool) (T : Node → ValType) → Cuts (bounds Z.m W) t c K M P → Standing (body_sites (callees Z.m) (arity t) c) K → (n : ℕ) (h : Here) → h.stack ≡ [] → IsReturn (run Z (below Z (calls Z) n) (arity t ∷ []) c h).outcome → Follows (run Z (below Z (calls Z) n) (arity t ∷ []) c h) (run Z (below Z (calls Z) n) (arity t ∷ []) (cut (callees Z.m) K P T t c 0 []) h)
+pub body_follows : (Z : Fixed) (W : Cover) → FixedOk Z W → (t : Option ValType) (c : Marked) (K M P : Node → Bool) (T : Node → ValType)
+    → Cuts (bounds Z.m W) t c K M P → Standing (body_sites (callees Z.m) (arity t) c) K → (n : ℕ) (h : Here) → h.stack ≡ []
+    → IsReturn (run Z (below Z (calls Z) n) (arity t ∷ []) c h).outcome
+    → Follows (run Z (below Z (calls Z) n) (arity t ∷ []) c h) (run Z (below Z (calls Z) n) (arity t ∷ []) (cut (callees Z.m) K P T t c 0 []) h)
 body_follows Z W ok t c K M P T cu stand n h empty r =
     read_off K M N (arity t) (size c) x.outcome x.there x.events x'.outcome x'.there x'.events
-    (simulate Z W G K M P T N ke.makers mp (below Z (calls Z) n) (goods n (omega arith)) (dark-laps Z W G mode.Cuts K M P N (calls Z) n goods) (kept-laps Z W G K M P T N ke.makers mp (calls Z) n goods) c ctx Exit t 0 (size c) [] closed (omega arith) (omega arith) h h rel sto) r
+    (simulate Z W G K M P T N ke.makers mp (below Z (calls Z) n) (goods n (omega arith)) (dark-laps Z W G mode.Cuts K M P N (calls Z) n goods) (kept-laps Z W G K M P T N ke.makers mp (calls Z) n goods) c ctx Exit t 0 (size c) [] closed (omega arith) (omega arith) h h rel sto)
+    r
   where
     B : Bounds
     B = bounds Z.m W
@@ -236,7 +266,8 @@ body_follows Z W ok t c K M P T cu stand n h empty r =
     G k = Lawful B R k
 
     goods : (m : ℕ) → m ≤ n → G (below Z (calls Z) m).call
-    goods m le = record { does = does_laws Z W ok n m le; two = two_laws Z W ok R (any_round_holds B) n m le; done = done_laws Z W ok R (any_round_holds B) n m le }
+    goods m le =
+        record { does = does_laws Z W ok n m le; two = two_laws Z W ok R (any_round_holds B) n m le; done = done_laws Z W ok R (any_round_holds B) n m le }
 
     x : Run
     x = run Z (below Z (calls Z) n) (arity t ∷ []) c h
@@ -254,7 +285,8 @@ body_follows Z W ok t c K M P T cu stand n h empty r =
     closed = body_closed Z W ok t c K M P cu stand
 
 -- the same set, with its live nodes alone
-pub live_cuts : (B : Bounds) (t : Option ValType) (c : Marked) (K M P : Node → Bool) → Cuts B t c K M P → (let S = body_sites (callees B.m) (arity t) c in Cuts B t c (among_live S K) (among_live S M) P)
+pub live_cuts : (B : Bounds) (t : Option ValType) (c : Marked) (K M P : Node → Bool) → Cuts B t c K M P
+    → (let S = body_sites (callees B.m) (arity t) c in Cuts B t c (among_live S K) (among_live S M) P)
 live_cuts B t c K M P cu = record {
   shaped = cu.shaped;
   kept = live_kept B (RowOf B.m (AnyRound B)) (arity t) c K M cu.kept;
@@ -262,7 +294,8 @@ live_cuts B t c K M P cu = record {
 }
 
 -- it makes the same cut
-pub live_cut : (cs : Callees) (t : Option ValType) (c : Marked) (K P : Node → Bool) (T : Node → ValType) → cut cs (among_live (body_sites cs (arity t) c) K) P T t c 0 [] ≡ cut cs K P T t c 0 []
+pub live_cut : (cs : Callees) (t : Option ValType) (c : Marked) (K P : Node → Bool) (T : Node → ValType)
+    → cut cs (among_live (body_sites cs (arity t) c) K) P T t c 0 [] ≡ cut cs K P T t c 0 []
 live_cut cs t c K P T =
     let S = body_sites cs (arity t) c in
     cut_same cs S K (among_live S K) P T (λ p s is. live_agrees S K p s is) c (body_label (arity t) (size c) ∷ []) Exit t 0 [] (has_all [] S 0 refl)

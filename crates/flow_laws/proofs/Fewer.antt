@@ -19,7 +19,8 @@ use Rattle.wasm_types.specs.declared.place.Loc.TheVariants.{Global, Host, Local,
 use Rattle.wasm_types.specs.declared.place.Loc.{Loc}
 use Rattle.wasm_meaning.specs.State.{Store}
 
-module _ (Z : Fixed) (W : Cover) (R : Rows) (ok : FixedOk Z W) (M : Node → Bool) (N : Node → Loc → Type 0) (p : ℕ) (names : List Node) (s : Node) (op : Instr) (g : Callee) (cc : IsCall (callees Z.m) op g) where
+module _ (Z : Fixed) (W : Cover) (R : Rows) (ok : FixedOk Z W) (M : Node → Bool) (N : Node → Loc → Type 0) (p : ℕ) (names : List Node) (s : Node) (op : Instr)
+    (g : Callee) (cc : IsCall (callees Z.m) op g) where
   abbrev B : Bounds
   B = bounds Z.m W
 
@@ -31,7 +32,8 @@ module _ (Z : Fixed) (W : Cover) (R : Rows) (ok : FixedOk Z W) (M : Node → Boo
   abbrev pub UsesRow : Output → Type 0
   UsesRow out = (x : Loc) → RowOf Z.m R g out x → Uses x
 
-  begins_same : (out : Output) (vs vs' : List Value) (st st' : Store) → UsesRow out → Matches M (take (takes (callees Z.m) op) names) vs vs' → ((x : Loc) → N (At p) x → EqAt x st st') → SameOn (RowOf Z.m R g out) vs vs' st st'
+  begins_same : (out : Output) (vs vs' : List Value) (st st' : Store) → UsesRow out → Matches M (take (takes (callees Z.m) op) names) vs vs'
+      → ((x : Loc) → N (At p) x → EqAt x st st') → SameOn (RowOf Z.m R g out) vs vs' st st'
   begins_same out vs vs' st st' u ma eq (Local k) row = operand_same M (take (takes (callees Z.m) op) names) vs vs' k ma (λ d e. u (Local k) row d e)
   begins_same out vs vs' st st' u ma eq (Global i) row = eq (Global i) (u (Global i) row)
   begins_same out vs vs' st st' u ma eq Mem row = eq Mem (u Mem row)
@@ -39,12 +41,20 @@ module _ (Z : Fixed) (W : Cover) (R : Rows) (ok : FixedOk Z W) (M : Node → Boo
   begins_same out vs vs' st st' u ma eq Host row = eq Host (u Host row)
 
   -- it returns from the slice's store too, in as many turns
-  pub kept_comes : (c : Calls) → DoneLaw R Z.m c → UsesRow Done → (vs vs' : List Value) (st st' : Store) (e : Effect) → Matches M (take (takes (callees Z.m) op) names) vs vs' → ((x : Loc) → N (At p) x → EqAt x st st') → effect Z c op vs st ≡ Gives e → Comes Z c op vs' st st' e
-  kept_comes c dones u vs vs' st st' e ma eq q = call_done Z W ok c R dones op g cc vs vs' st st' e (length_match M (take (takes (callees Z.m) op) names) vs vs' ma) (begins_same Done vs vs' st st' u ma eq) q
+  pub kept_comes : (c : Calls) → DoneLaw R Z.m c → UsesRow Done → (vs vs' : List Value) (st st' : Store) (e : Effect)
+      → Matches M (take (takes (callees Z.m) op) names) vs vs' → ((x : Loc) → N (At p) x → EqAt x st st') → effect Z c op vs st ≡ Gives e
+      → Comes Z c op vs' st st' e
+  kept_comes c dones u vs vs' st st' e ma eq q =
+      call_done Z W ok c R dones op g cc vs vs' st st' e (length_match M (take (takes (callees Z.m) op) names) vs vs' ma)
+      (begins_same Done vs vs' st st' u ma eq) q
 
   -- what is needed of it is equal
-  pub kept_agrees : (c : Calls) → TwoLaw R Z.m c → (M (At p) ≡ true → UsesRow Ret) → ((y : Loc) → N s y → writes B op y ≡ true → UsesRow (Final y)) → (vs vs' : List Value) (st st' : Store) (e e' : Effect) → Matches M (take (takes (callees Z.m) op) names) vs vs' → ((x : Loc) → N (At p) x → EqAt x st st') → effect Z c op vs st ≡ Gives e → effect Z c op vs' st' ≡ Gives e' → Agreed B op (M (At p)) (N s) e e'
+  pub kept_agrees : (c : Calls) → TwoLaw R Z.m c → (M (At p) ≡ true → UsesRow Ret) → ((y : Loc) → N s y → writes B op y ≡ true → UsesRow (Final y))
+      → (vs vs' : List Value) (st st' : Store) (e e' : Effect) → Matches M (take (takes (callees Z.m) op) names) vs vs'
+      → ((x : Loc) → N (At p) x → EqAt x st st') → effect Z c op vs st ≡ Gives e → effect Z c op vs' st' ≡ Gives e' → Agreed B op (M (At p)) (N s) e e'
   kept_agrees c twos ret fin vs vs' st st' e e' ma eq q q' = record {
     results = λ m. call_two Z W ok c R twos op g cc Ret vs vs' st st' e e' (begins_same Ret vs vs' st st' (ret m) ma eq) q q';
-    written = λ y nd on. call_two Z W ok c R twos op g cc (Final y) vs vs' st st' e e' (begins_same (Final y) vs vs' st st' (fin y nd on) ma eq) q q' (call_outer Z W ok c op g cc y on);
+    written =
+        λ y nd on. call_two Z W ok c R twos op g cc (Final y) vs vs' st st' e e' (begins_same (Final y) vs vs' st st' (fin y nd on) ma eq) q q'
+        (call_outer Z W ok c op g cc y on);
   }

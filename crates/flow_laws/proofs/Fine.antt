@@ -112,32 +112,45 @@ record FineCode (cs : Callees) (S : Sites) (ctx : List Label) (k : Node) (code :
   pub last : (ns : List Node) → end_names cs code p names ≡ Some ns → AllMade S ns
   pub inner : EndsFine S (inner_ends cs code p names)
 
-fine_of : (cs : Callees) (S : Sites) (code : Marked) (ctx : List Label) (k : Node) (p : ℕ) (names : List Node) → HasAt S p (sites cs ctx k code p names) → AllMade S names → JoinsOk S ctx → FineCode cs S ctx k code p names
+fine_of : (cs : Callees) (S : Sites) (code : Marked) (ctx : List Label) (k : Node) (p : ℕ) (names : List Node) → HasAt S p (sites cs ctx k code p names)
+    → AllMade S names → JoinsOk S ctx → FineCode cs S ctx k code p names
 fine_of cs S End ctx k p names at a j = record { all = tt; last = λ ns e. subst (AllMade S) (some_names names ns e) a; inner = tt }
 fine_of cs S (Do m op rest) ctx k p names at a j =
-    let r = fine_of cs S rest ctx k (p + 1) (made cs p op names) at.1 (made_named S (leaves cs op) (At p) (drop (takes cs op) names) (_, at.0, tt) (made_drop S (takes cs op) names a)) j in
+    let r =
+    fine_of cs S rest ctx k (p + 1) (made cs p op names) at.1
+    (made_named S (leaves cs op) (At p) (drop (takes cs op) names) (_, at.0, tt) (made_drop S (takes cs op) names a)) j in
     record { all = (a, j, r.all); last = r.last; inner = r.inner }
 fine_of cs S (Block m r body rest) ctx k p names at a j =
     let e = p + 1 + size body in
     let bs = sites cs (block_label p (arity r) e ∷ ctx) (Join p) body (p + 1) [] in
     let rs = sites cs ctx k rest e (named (arity r) (Join p) names) in
     let b = fine_of cs S body (block_label p (arity r) e ∷ ctx) (Join p) (p + 1) [] (has_front S (p + 1) bs rs at.1) tt ((_, at.0, tt), j) in
-    let x = fine_of cs S rest ctx k e (named (arity r) (Join p) names) (has_back S (p + 1) e bs rs (omega (arith, length-sites cs body (block_label p (arity r) e ∷ ctx) (Join p) (p + 1) [])) at.1) (made_named S (arity r) (Join p) names (_, at.0, tt) a) j in
+    let x =
+    fine_of cs S rest ctx k e (named (arity r) (Join p) names)
+    (has_back S (p + 1) e bs rs (omega (arith, length-sites cs body (block_label p (arity r) e ∷ ctx) (Join p) (p + 1) [])) at.1)
+    (made_named S (arity r) (Join p) names (_, at.0, tt) a) j in
     record {
       all = (a, j, fine_both S bs rs b.all x.all);
       last = x.last;
-      inner = ends_both S (one_end (Join p) (arity r) (end_names cs body (p + 1) [])) _ (ends_one S (Join p) (arity r) (end_names cs body (p + 1) []) (_, at.0, tt) b.last) (ends_both S (inner_ends cs body (p + 1) []) _ b.inner x.inner);
+      inner =
+          ends_both S (one_end (Join p) (arity r) (end_names cs body (p + 1) [])) _
+          (ends_one S (Join p) (arity r) (end_names cs body (p + 1) []) (_, at.0, tt) b.last) (ends_both S (inner_ends cs body (p + 1) []) _ b.inner x.inner);
     }
 fine_of cs S (Loop m r body rest) ctx k p names at a j =
     let e = p + 1 + size body in
     let bs = sites cs (loop_label p e ∷ ctx) (Join p) body (p + 1) [] in
     let rs = sites cs ctx k rest e (named (arity r) (Join p) names) in
     let b = fine_of cs S body (loop_label p e ∷ ctx) (Join p) (p + 1) [] (has_front S (p + 1) bs rs at.1) tt ((_, at.0, tt), j) in
-    let x = fine_of cs S rest ctx k e (named (arity r) (Join p) names) (has_back S (p + 1) e bs rs (omega (arith, length-sites cs body (loop_label p e ∷ ctx) (Join p) (p + 1) [])) at.1) (made_named S (arity r) (Join p) names (_, at.0, tt) a) j in
+    let x =
+    fine_of cs S rest ctx k e (named (arity r) (Join p) names)
+    (has_back S (p + 1) e bs rs (omega (arith, length-sites cs body (loop_label p e ∷ ctx) (Join p) (p + 1) [])) at.1)
+    (made_named S (arity r) (Join p) names (_, at.0, tt) a) j in
     record {
       all = (a, j, fine_both S bs rs b.all x.all);
       last = x.last;
-      inner = ends_both S (one_end (Join p) (arity r) (end_names cs body (p + 1) [])) _ (ends_one S (Join p) (arity r) (end_names cs body (p + 1) []) (_, at.0, tt) b.last) (ends_both S (inner_ends cs body (p + 1) []) _ b.inner x.inner);
+      inner =
+          ends_both S (one_end (Join p) (arity r) (end_names cs body (p + 1) [])) _
+          (ends_one S (Join p) (arity r) (end_names cs body (p + 1) []) (_, at.0, tt) b.last) (ends_both S (inner_ends cs body (p + 1) []) _ b.inner x.inner);
     }
 fine_of cs S (If m r x y rest) ctx k p names at a j =
     let f = p + 1 + size x in
@@ -149,11 +162,17 @@ fine_of cs S (If m r x y rest) ctx k p names at a j =
     let back_x = has_back S (p + 1) f xs (ys ++ rs) (omega (arith, length-sites cs x (L ∷ ctx) (Join p) (p + 1) [])) at.1 in
     let b = fine_of cs S x (L ∷ ctx) (Join p) (p + 1) [] (has_front S (p + 1) xs (ys ++ rs) at.1) tt ((_, at.0, tt), j) in
     let c = fine_of cs S y (L ∷ ctx) (Join p) f [] (has_front S f ys rs back_x) tt ((_, at.0, tt), j) in
-    let d = fine_of cs S rest ctx k e (named (arity r) (Join p) (drop 1 names)) (has_back S f e ys rs (omega (arith, length-sites cs y (L ∷ ctx) (Join p) f [])) back_x) (made_named S (arity r) (Join p) (drop 1 names) (_, at.0, tt) (made_drop S 1 names a)) j in
+    let d =
+    fine_of cs S rest ctx k e (named (arity r) (Join p) (drop 1 names))
+    (has_back S f e ys rs (omega (arith, length-sites cs y (L ∷ ctx) (Join p) f [])) back_x)
+    (made_named S (arity r) (Join p) (drop 1 names) (_, at.0, tt) (made_drop S 1 names a)) j in
     record {
       all = (a, j, fine_both S xs (ys ++ rs) b.all (fine_both S ys rs c.all d.all));
       last = d.last;
-      inner = ends_both S (one_end (Join p) (arity r) (end_names cs x (p + 1) [])) _ (ends_one S (Join p) (arity r) (end_names cs x (p + 1) []) (_, at.0, tt) b.last) (ends_both S (one_end (Join p) (arity r) (end_names cs y f [])) _ (ends_one S (Join p) (arity r) (end_names cs y f []) (_, at.0, tt) c.last) (ends_both S (inner_ends cs x (p + 1) []) _ b.inner (ends_both S (inner_ends cs y f []) _ c.inner d.inner)));
+      inner =
+          ends_both S (one_end (Join p) (arity r) (end_names cs x (p + 1) [])) _
+          (ends_one S (Join p) (arity r) (end_names cs x (p + 1) []) (_, at.0, tt) b.last)
+          (ends_both S (one_end (Join p) (arity r) (end_names cs y f [])) _ (ends_one S (Join p) (arity r) (end_names cs y f []) (_, at.0, tt) c.last) (ends_both S (inner_ends cs x (p + 1) []) _ b.inner (ends_both S (inner_ends cs y f []) _ c.inner d.inner)));
     }
 fine_of cs S (Br m l rest) ctx k p names at a j = record { all = (a, j, fine_nones S (size rest)); last = λ ns e. no_names ns e; inner = tt }
 fine_of cs S (BrIf m l rest) ctx k p names at a j =
@@ -263,7 +282,10 @@ module _ (cs : Callees) (t : ℕ) (c : Marked) where
   site_fine p s is = fine_get S S p s body_fine.all is
 
   pub end_fine : (e : EndAt) → Among E e → FineEnd S e
-  end_fine e a = fine_end S E e (ends_both S (one_end Exit t (end_names cs c 0 [])) (inner_ends cs c 0 []) (ends_one S Exit t (end_names cs c 0 []) tt body_fine.last) body_fine.inner) a
+  end_fine e a =
+      fine_end S E e
+      (ends_both S (one_end Exit t (end_names cs c 0 [])) (inner_ends cs c 0 []) (ends_one S Exit t (end_names cs c 0 []) tt body_fine.last) body_fine.inner)
+      a
 
 module _ (B : Bounds) (R : CallRows) (F : Func) (o : Output) where
   abbrev SF : Sites
@@ -279,11 +301,15 @@ module _ (B : Bounds) (R : CallRows) (F : Func) (o : Output) where
   led_fine i (done_trap op s e is hd m) = (s, is, subst IsDo (sym hd) tt)
   led_fine i (done_unreachable s e is hd) = (s, is, subst IsDo (sym hd) tt)
   led_fine i (writer {x = x} {d = d} a led w path) = written_made B SF x (At d) w
-  led_fine i (operand {n = n} p k out s op led is hd c nd g) = made_get SF (takes (callees B.m) op) k s.names n (site_fine (callees B.m) F.results (text F) p s is).names g
+  led_fine i (operand {n = n} p k out s op led is hd c nd g) =
+      made_get SF (takes (callees B.m) op) k s.names n (site_fine (callees B.m) F.results (text F) p s is).names g
   led_fine i (reading out s op led is hd nd) = tt
-  led_fine i (argument {n = n} p k f out s op led is hd c row e) = let i = get_reverse (take (takes (callees B.m) op) s.names) k n e in made_get SF (takes (callees B.m) op) i.place s.names n (site_fine (callees B.m) F.results (text F) p s is).names i.is
+  led_fine i (argument {n = n} p k f out s op led is hd c row e) =
+      let i = get_reverse (take (takes (callees B.m) op) s.names) k n e in
+      made_get SF (takes (callees B.m) op) i.place s.names n (site_fine (callees B.m) F.results (text F) p s is).names i.is
   led_fine i (place f out s op led is hd c row on) = tt
-  led_fine i (carrying {n = n} p l k s led is br g) = made_get SF _ k (carry_names s.head s.names) n (carry_made SF s.head s.names (site_fine (callees B.m) F.results (text F) p s is).names) g
+  led_fine i (carrying {n = n} p l k s led is br g) =
+      made_get SF _ k (carry_names s.head s.names) n (carry_made SF s.head s.names (site_fine (callees B.m) F.results (text F) p s is).names) g
   led_fine i (ending {n = n} e k led a g) = made_get SF e.count k e.names n (end_fine (callees B.m) F.results (text F) e a).names g
   led_fine i (deciding {p = p} n out led sh) = shadow_stands SF p n sh
   led_fine i (deciding_again {p = p} q led sh) = shadow_stands SF p (At q) sh
@@ -316,6 +342,7 @@ module _ (B : Bounds) (R : CallRows) (F : Func) (o : Output) where
       br_case p l s is hd (makes_it out led) = no_do p s (BrIfHead l) is hd (λ z. z) (led_fine (Makes (At p) out) led)
       br_case p l s is hd (decides_it led) = led
 
-      table_case : (p other : ℕ) (labels : List ℕ) (s : Site) → IsSite SF p s → s.head ≡ BrTableHead labels other → AtNode B R SF EF o (At p) → Led B R SF EF o (Decider p)
+      table_case : (p other : ℕ) (labels : List ℕ) (s : Site) → IsSite SF p s → s.head ≡ BrTableHead labels other → AtNode B R SF EF o (At p)
+          → Led B R SF EF o (Decider p)
       table_case p other labels s is hd (makes_it out led) = no_do p s (BrTableHead labels other) is hd (λ z. z) (led_fine (Makes (At p) out) led)
       table_case p other labels s is hd (decides_it led) = led

@@ -41,7 +41,8 @@ pub record Cuts (B : Bounds) (t : Option ValType) (c : Marked) (K M P : Node →
 -- Where a body returns, its cut returns from the same start, with the same events and after no more turns.
 abbrev pub SliceFollows : Type 0
 SliceFollows =
-    (m : Module) (W : Cover) → ModuleOk (bounds m W) → (t : Option ValType) (c : Marked) (K M P : Node → Bool) (T : Node → ValType) → Cuts (bounds m W) t c K M P
+    (m : Module) (W : Cover) → ModuleOk (bounds m W) → (t : Option ValType) (c : Marked) (K M P : Node → Bool) (T : Node → ValType) → Cuts (bounds m W) t c K
+    M P
     → (s : State) → Fits m s → (depth : ℕ) (h : Here) → h.stack ≡ []
     → (let Z = fixed m s in let b = nested Z depth in
     IsReturn (run Z b (arity t ∷ []) c h).outcome → Follows (run Z b (arity t ∷ []) c h) (run Z b (arity t ∷ []) (cut_body (callees m) K P T t c) h))

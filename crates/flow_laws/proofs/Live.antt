@@ -127,7 +127,8 @@ taken_in (suc n) zero (x ∷ names) d e = e
 taken_in (suc n) (suc k) (x ∷ names) d e = taken_in n k names d e
 
 -- what is needed for the live nodes is needed for the set
-need_more : (B : Bounds) (R : CallRows) (S : Sites) (K M : Node → Bool) (a : Node) (x : Loc) → NeedK B R S (among_live S K) (among_live S M) a x → NeedK B R S K M a x
+need_more : (B : Bounds) (R : CallRows) (S : Sites) (K M : Node → Bool) (a : Node) (x : Loc) → NeedK B R S (among_live S K) (among_live S M) a x
+    → NeedK B R S K M a x
 need_more B R S K M a x (used {p = p} s op is hd n on u) = used s op is hd n (both_on (K (At p)) (live S (At p)) on).0 u
 need_more B R S K M a x (used_done {p = p} g s op is hd n on row out) = used_done g s op is hd n (both_on (K (At p)) (live S (At p)) on).0 row out
 need_more B R S K M a x (used_result {p = p} g s op is hd n on row out) = used_result g s op is hd n (both_on (M (At p)) (live S (At p)) on).0 row out
@@ -181,7 +182,9 @@ module _ (B : Bounds) (R : CallRows) (t : ℕ) (c : Marked) (K M : Node → Bool
     args_final = λ p k g y d s op is hd n w nd row e. arg_live p k d s _ is e (ke.args_final p k g y d s op is hd n w (need s.next y nd) row e);
     reaches = λ p x s is w nd. k_at p s is (ke.reaches p x s is w (need s.next x nd));
     shadows = λ p n sh on. let st = shadow_stands S p n sh in k_at p st.site st.is (ke.shadows p n sh (k_on n on));
-    carries = λ p l s is br on. all_live S M _ (carry_names s.head s.names) (carry_made S s.head s.names (site_fine (callees B.m) t c p s is).names) (ke.carries p l s is br (m_on _ on));
+    carries =
+        λ p l s is br on. all_live S M _ (carry_names s.head s.names) (carry_made S s.head s.names (site_fine (callees B.m) t c p s is).names)
+        (ke.carries p l s is br (m_on _ on));
     live_ends = λ e a on. all_live S M e.count e.names (end_fine (callees B.m) t c e a).names (ke.live_ends e a (m_on e.owner on));
     around_at = λ b q s is l g on. k_at b s is (ke.around_at b q s is l g (k_on (At q) on));
     around_join = λ b q s is l g on. k_at b s is (ke.around_join b q s is l g (k_on (Join q) on));
@@ -200,22 +203,35 @@ module _ (B : Bounds) (R : CallRows) (t : ℕ) (c : Marked) (K M : Node → Bool
 
 -- two sets with the same live positions make the same cut
 module _ (cs : Callees) (S : Sites) (K K1 P : Node → Bool) (T : Node → ValType) (agree : (p : ℕ) (s : Site) → IsSite S p s → K1 (At p) ≡ K (At p)) where
-  pub cut_same : (code : Marked) (ctx : List Label) (k : Node) (t : Option ValType) (p : ℕ) (names : List Node) → HasAt S p (sites cs ctx k code p names) → cut cs K1 P T t code p names ≡ cut cs K P T t code p names
+  pub cut_same : (code : Marked) (ctx : List Label) (k : Node) (t : Option ValType) (p : ℕ) (names : List Node) → HasAt S p (sites cs ctx k code p names)
+      → cut cs K1 P T t code p names ≡ cut cs K P T t code p names
   cut_same End ctx k t p names at = refl
   cut_same (Do m op rest) ctx k t p names at =
-      ap₂ {A = Bool} {B = Marked} (λ q x. pick q (Do m op x) (drops (shown P (take (takes cs op) names)) (filler P (result_of (leaves cs op) (T (At p))) (At p) x))) (agree p _ at.0) (cut_same rest ctx k t (p + 1) (made cs p op names) at.1)
+      ap₂ {A = Bool} {B = Marked}
+      (λ q x. pick q (Do m op x) (drops (shown P (take (takes cs op) names)) (filler P (result_of (leaves cs op) (T (At p))) (At p) x))) (agree p _ at.0)
+      (cut_same rest ctx k t (p + 1) (made cs p op names) at.1)
   cut_same (Block m r body rest) ctx k t p names at =
       let e = p + 1 + size body in
       let bs = sites cs (block_label p (arity r) e ∷ ctx) (Join p) body (p + 1) [] in
       let rs = sites cs ctx k rest e (named (arity r) (Join p) names) in
-      ap (λ q. pick q (Block m r (cut cs K1 P T r body (p + 1) []) (cut cs K1 P T t rest e (named (arity r) (Join p) names))) (filler P r (Join p) (cut cs K1 P T t rest e (named (arity r) (Join p) names)))) (agree p _ at.0)
-      ∙ ap₂ {A = Marked} {B = Marked} (λ x y. pick (K (At p)) (Block m r x y) (filler P r (Join p) y)) (cut_same body (block_label p (arity r) e ∷ ctx) (Join p) r (p + 1) [] (has_front S (p + 1) bs rs at.1)) (cut_same rest ctx k t e (named (arity r) (Join p) names) (has_back S (p + 1) e bs rs (omega (arith, length-sites cs body (block_label p (arity r) e ∷ ctx) (Join p) (p + 1) [])) at.1))
+      ap
+      (λ q. pick q (Block m r (cut cs K1 P T r body (p + 1) []) (cut cs K1 P T t rest e (named (arity r) (Join p) names)))
+      (filler P r (Join p) (cut cs K1 P T t rest e (named (arity r) (Join p) names)))) (agree p _ at.0)
+      ∙ ap₂ {A = Marked} {B = Marked} (λ x y. pick (K (At p)) (Block m r x y) (filler P r (Join p) y))
+      (cut_same body (block_label p (arity r) e ∷ ctx) (Join p) r (p + 1) [] (has_front S (p + 1) bs rs at.1))
+      (cut_same rest ctx k t e (named (arity r) (Join p) names)
+      (has_back S (p + 1) e bs rs (omega (arith, length-sites cs body (block_label p (arity r) e ∷ ctx) (Join p) (p + 1) [])) at.1))
   cut_same (Loop m r body rest) ctx k t p names at =
       let e = p + 1 + size body in
       let bs = sites cs (loop_label p e ∷ ctx) (Join p) body (p + 1) [] in
       let rs = sites cs ctx k rest e (named (arity r) (Join p) names) in
-      ap (λ q. pick q (Loop m r (cut cs K1 P T r body (p + 1) []) (cut cs K1 P T t rest e (named (arity r) (Join p) names))) (filler P r (Join p) (cut cs K1 P T t rest e (named (arity r) (Join p) names)))) (agree p _ at.0)
-      ∙ ap₂ {A = Marked} {B = Marked} (λ x y. pick (K (At p)) (Loop m r x y) (filler P r (Join p) y)) (cut_same body (loop_label p e ∷ ctx) (Join p) r (p + 1) [] (has_front S (p + 1) bs rs at.1)) (cut_same rest ctx k t e (named (arity r) (Join p) names) (has_back S (p + 1) e bs rs (omega (arith, length-sites cs body (loop_label p e ∷ ctx) (Join p) (p + 1) [])) at.1))
+      ap
+      (λ q. pick q (Loop m r (cut cs K1 P T r body (p + 1) []) (cut cs K1 P T t rest e (named (arity r) (Join p) names)))
+      (filler P r (Join p) (cut cs K1 P T t rest e (named (arity r) (Join p) names)))) (agree p _ at.0)
+      ∙ ap₂ {A = Marked} {B = Marked} (λ x y. pick (K (At p)) (Loop m r x y) (filler P r (Join p) y))
+      (cut_same body (loop_label p e ∷ ctx) (Join p) r (p + 1) [] (has_front S (p + 1) bs rs at.1))
+      (cut_same rest ctx k t e (named (arity r) (Join p) names)
+      (has_back S (p + 1) e bs rs (omega (arith, length-sites cs body (loop_label p e ∷ ctx) (Join p) (p + 1) [])) at.1))
   cut_same (If m r x y rest) ctx k t p names at =
       let f = p + 1 + size x in
       let e = p + 1 + size x + size y in
@@ -228,12 +244,19 @@ module _ (cs : Callees) (S : Sites) (K K1 P : Node → Bool) (T : Node → ValTy
       let b = cut cs K1 P T r y f [] in
       let c = cut cs K1 P T t rest e (named (arity r) (Join p) (drop 1 names)) in
       ap (λ q. pick q (If m r a b c) (drops (shown P (take 1 names)) (filler P r (Join p) c))) (agree p _ at.0)
-      ∙ ap (λ z. pick (K (At p)) (If m r z b c) (drops (shown P (take 1 names)) (filler P r (Join p) c))) (cut_same x (L ∷ ctx) (Join p) r (p + 1) [] (has_front S (p + 1) xs (ys ++ rs) at.1))
-      ∙ ap₂ {A = Marked} {B = Marked} (λ u v. pick (K (At p)) (If m r (cut cs K P T r x (p + 1) []) u v) (drops (shown P (take 1 names)) (filler P r (Join p) v))) (cut_same y (L ∷ ctx) (Join p) r f [] (has_front S f ys rs back_x)) (cut_same rest ctx k t e (named (arity r) (Join p) (drop 1 names)) (has_back S f e ys rs (omega (arith, length-sites cs y (L ∷ ctx) (Join p) f [])) back_x))
+      ∙ ap (λ z. pick (K (At p)) (If m r z b c) (drops (shown P (take 1 names)) (filler P r (Join p) c)))
+      (cut_same x (L ∷ ctx) (Join p) r (p + 1) [] (has_front S (p + 1) xs (ys ++ rs) at.1))
+      ∙ ap₂ {A = Marked} {B = Marked}
+      (λ u v. pick (K (At p)) (If m r (cut cs K P T r x (p + 1) []) u v) (drops (shown P (take 1 names)) (filler P r (Join p) v)))
+      (cut_same y (L ∷ ctx) (Join p) r f [] (has_front S f ys rs back_x))
+      (cut_same rest ctx k t e (named (arity r) (Join p) (drop 1 names))
+      (has_back S f e ys rs (omega (arith, length-sites cs y (L ∷ ctx) (Join p) f [])) back_x))
   cut_same (Br m l rest) ctx k t p names at = ap (λ q. pick q (Br m l End) (drops (shown P names) (zeros t End))) (agree p _ at.0)
   cut_same (BrIf m l rest) ctx k t p names at =
-      ap₂ {A = Bool} {B = Marked} (λ q x. pick q (BrIf m l x) (drops (shown P (take 1 names)) x)) (agree p _ at.0) (cut_same rest ctx k t (p + 1) (drop 1 names) at.1)
-  cut_same (BrTable m labels other rest) ctx k t p names at = ap (λ q. pick q (BrTable m labels other End) (drops (shown P names) (zeros t End))) (agree p _ at.0)
+      ap₂ {A = Bool} {B = Marked} (λ q x. pick q (BrIf m l x) (drops (shown P (take 1 names)) x)) (agree p _ at.0)
+      (cut_same rest ctx k t (p + 1) (drop 1 names) at.1)
+  cut_same (BrTable m labels other rest) ctx k t p names at =
+      ap (λ q. pick q (BrTable m labels other End) (drops (shown P names) (zeros t End))) (agree p _ at.0)
   cut_same (Return m rest) ctx k t p names at = ap (λ q. pick q (Return m End) (drops (shown P names) (zeros t End))) (agree p _ at.0)
   cut_same (Unreachable m rest) ctx k t p names at = ap (λ q. pick q (Unreachable m End) (drops (shown P names) (zeros t End))) (agree p _ at.0)
 

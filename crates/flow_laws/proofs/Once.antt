@@ -39,7 +39,8 @@ size_marked w done p = refl
 size_marked w (one op rest) p = omega (arith, size_leaf (w p) op (marked w (p + 1) rest), size_marked w rest (p + 1))
 size_marked w (block kind body rest) p = omega (arith, size_marked w body (p + 1), size_marked w rest (p + 1 + count body))
 size_marked w (repeat kind body rest) p = omega (arith, size_marked w body (p + 1), size_marked w rest (p + 1 + count body))
-size_marked w (branch kind x y rest) p = omega (arith, size_marked w x (p + 1), size_marked w y (p + 1 + count x), size_marked w rest (p + 1 + count x + count y))
+size_marked w (branch kind x y rest) p =
+    omega (arith, size_marked w x (p + 1), size_marked w y (p + 1 + count x), size_marked w rest (p + 1 + count x + count y))
 
 length_marked : (w : ℕ → Bool) (c : Code) (p : ℕ) → length (marks (marked w p c)) ≡ count c
 length_marked w c p = length-marks (marked w p c) ∙ size_marked w c p
@@ -52,16 +53,23 @@ pointwise_marked : (w : ℕ → Bool) (c : Code) (p : ℕ) → Pointwise w p (ma
 pointwise_marked w done p = tt
 pointwise_marked w (one op rest) p = subst (Pointwise w p) (sym (marks_leaf (w p) op (marked w (p + 1) rest))) (refl, pointwise_marked w rest (p + 1))
 pointwise_marked w (block kind body rest) p =
-    let e = p + 1 + count body in
-    (refl, pointwise-both w (p + 1) e (marks (marked w (p + 1) body)) (marks (marked w e rest)) (omega (arith, length_marked w body (p + 1))) (pointwise_marked w body (p + 1)) (pointwise_marked w rest e))
+    let e = p + 1 + count body in (
+      refl,
+      pointwise-both w (p + 1) e (marks (marked w (p + 1) body)) (marks (marked w e rest)) (omega (arith, length_marked w body (p + 1)))
+          (pointwise_marked w body (p + 1)) (pointwise_marked w rest e),
+    )
 pointwise_marked w (repeat kind body rest) p =
-    let e = p + 1 + count body in
-    (refl, pointwise-both w (p + 1) e (marks (marked w (p + 1) body)) (marks (marked w e rest)) (omega (arith, length_marked w body (p + 1))) (pointwise_marked w body (p + 1)) (pointwise_marked w rest e))
+    let e = p + 1 + count body in (
+      refl,
+      pointwise-both w (p + 1) e (marks (marked w (p + 1) body)) (marks (marked w e rest)) (omega (arith, length_marked w body (p + 1)))
+          (pointwise_marked w body (p + 1)) (pointwise_marked w rest e),
+    )
 pointwise_marked w (branch kind x y rest) p =
     let f = p + 1 + count x in
     let e = p + 1 + count x + count y in (
       refl,
-      pointwise-both w (p + 1) f (marks (marked w (p + 1) x)) (marks (marked w f y) ++ marks (marked w e rest)) (omega (arith, length_marked w x (p + 1))) (pointwise_marked w x (p + 1))
+      pointwise-both w (p + 1) f (marks (marked w (p + 1) x)) (marks (marked w f y) ++ marks (marked w e rest)) (omega (arith, length_marked w x (p + 1)))
+          (pointwise_marked w x (p + 1))
           (pointwise-both w f e (marks (marked w f y)) (marks (marked w e rest)) (omega (arith, length_marked w y f)) (pointwise_marked w y f) (pointwise_marked w rest e)),
     )
 
@@ -106,12 +114,16 @@ marks_of cs (Block m r body rest) ctx k p names =
     let e = p + 1 + size body in
     let bs = sites cs (block_label p (arity r) e ∷ ctx) (Join p) body (p + 1) [] in
     let rs = sites cs ctx k rest e (named (arity r) (Join p) names) in
-    ap (λ z. m ∷ z) (both_marks bs rs (live_marks body) (live_marks rest) (marks_of cs body (block_label p (arity r) e ∷ ctx) (Join p) (p + 1) []) (marks_of cs rest ctx k e (named (arity r) (Join p) names)))
+    ap (λ z. m ∷ z)
+    (both_marks bs rs (live_marks body) (live_marks rest) (marks_of cs body (block_label p (arity r) e ∷ ctx) (Join p) (p + 1) [])
+    (marks_of cs rest ctx k e (named (arity r) (Join p) names)))
 marks_of cs (Loop m r body rest) ctx k p names =
     let e = p + 1 + size body in
     let bs = sites cs (loop_label p e ∷ ctx) (Join p) body (p + 1) [] in
     let rs = sites cs ctx k rest e (named (arity r) (Join p) names) in
-    ap (λ z. m ∷ z) (both_marks bs rs (live_marks body) (live_marks rest) (marks_of cs body (loop_label p e ∷ ctx) (Join p) (p + 1) []) (marks_of cs rest ctx k e (named (arity r) (Join p) names)))
+    ap (λ z. m ∷ z)
+    (both_marks bs rs (live_marks body) (live_marks rest) (marks_of cs body (loop_label p e ∷ ctx) (Join p) (p + 1) [])
+    (marks_of cs rest ctx k e (named (arity r) (Join p) names)))
 marks_of cs (If m r x y rest) ctx k p names =
     let f = p + 1 + size x in
     let e = p + 1 + size x + size y in
@@ -119,28 +131,37 @@ marks_of cs (If m r x y rest) ctx k p names =
     let xs = sites cs (L ∷ ctx) (Join p) x (p + 1) [] in
     let ys = sites cs (L ∷ ctx) (Join p) y f [] in
     let rs = sites cs ctx k rest e (named (arity r) (Join p) (drop 1 names)) in
-    ap (λ z. m ∷ z) (both_marks xs (ys ++ rs) (live_marks x) (live_marks y ++ live_marks rest) (marks_of cs x (L ∷ ctx) (Join p) (p + 1) []) (both_marks ys rs (live_marks y) (live_marks rest) (marks_of cs y (L ∷ ctx) (Join p) f []) (marks_of cs rest ctx k e (named (arity r) (Join p) (drop 1 names)))))
+    ap (λ z. m ∷ z)
+    (both_marks xs (ys ++ rs) (live_marks x) (live_marks y ++ live_marks rest) (marks_of cs x (L ∷ ctx) (Join p) (p + 1) [])
+    (both_marks ys rs (live_marks y) (live_marks rest) (marks_of cs y (L ∷ ctx) (Join p) f []) (marks_of cs rest ctx k e (named (arity r) (Join p) (drop 1 names)))))
 marks_of cs (Br m l rest) ctx k p names = ap (λ z. m ∷ z) (site_marks-dead (size rest))
 marks_of cs (BrIf m l rest) ctx k p names = ap (λ z. m ∷ z) (marks_of cs rest ctx k (p + 1) (drop 1 names))
 marks_of cs (BrTable m labels other rest) ctx k p names = ap (λ z. m ∷ z) (site_marks-dead (size rest))
 marks_of cs (Return m rest) ctx k p names = ap (λ z. m ∷ z) (site_marks-dead (size rest))
 marks_of cs (Unreachable m rest) ctx k p names = ap (λ z. m ∷ z) (site_marks-dead (size rest))
 
-marks_at : (cs : Callees) (w : ℕ → Bool) (c : Marked) (ctx : List Label) (k : Node) (p : ℕ) (names : List Node) → Pointwise w p (marks c) → MarksAre w p (sites cs ctx k c p names)
+marks_at : (cs : Callees) (w : ℕ → Bool) (c : Marked) (ctx : List Label) (k : Node) (p : ℕ) (names : List Node) → Pointwise w p (marks c)
+    → MarksAre w p (sites cs ctx k c p names)
 marks_at cs w End ctx k p names h = tt
 marks_at cs w (Do m op rest) ctx k p names h = (h.0, marks_at cs w rest ctx k (p + 1) (made cs p op names) h.1)
 marks_at cs w (Block m r body rest) ctx k p names h =
     let e = p + 1 + size body in
     let bs = sites cs (block_label p (arity r) e ∷ ctx) (Join p) body (p + 1) [] in
     let rs = sites cs ctx k rest e (named (arity r) (Join p) names) in
-    let s = pointwise-split w (p + 1) e (marks body) (marks rest) (omega (arith, length-marks body)) h.1 in
-    (h.0, marks_are-append w (p + 1) e bs rs (omega (arith, length-sites cs body (block_label p (arity r) e ∷ ctx) (Join p) (p + 1) [])) (marks_at cs w body (block_label p (arity r) e ∷ ctx) (Join p) (p + 1) [] s.0) (marks_at cs w rest ctx k e (named (arity r) (Join p) names) s.1))
+    let s = pointwise-split w (p + 1) e (marks body) (marks rest) (omega (arith, length-marks body)) h.1 in (
+      h.0,
+      marks_are-append w (p + 1) e bs rs (omega (arith, length-sites cs body (block_label p (arity r) e ∷ ctx) (Join p) (p + 1) []))
+          (marks_at cs w body (block_label p (arity r) e ∷ ctx) (Join p) (p + 1) [] s.0) (marks_at cs w rest ctx k e (named (arity r) (Join p) names) s.1),
+    )
 marks_at cs w (Loop m r body rest) ctx k p names h =
     let e = p + 1 + size body in
     let bs = sites cs (loop_label p e ∷ ctx) (Join p) body (p + 1) [] in
     let rs = sites cs ctx k rest e (named (arity r) (Join p) names) in
-    let s = pointwise-split w (p + 1) e (marks body) (marks rest) (omega (arith, length-marks body)) h.1 in
-    (h.0, marks_are-append w (p + 1) e bs rs (omega (arith, length-sites cs body (loop_label p e ∷ ctx) (Join p) (p + 1) [])) (marks_at cs w body (loop_label p e ∷ ctx) (Join p) (p + 1) [] s.0) (marks_at cs w rest ctx k e (named (arity r) (Join p) names) s.1))
+    let s = pointwise-split w (p + 1) e (marks body) (marks rest) (omega (arith, length-marks body)) h.1 in (
+      h.0,
+      marks_are-append w (p + 1) e bs rs (omega (arith, length-sites cs body (loop_label p e ∷ ctx) (Join p) (p + 1) []))
+          (marks_at cs w body (loop_label p e ∷ ctx) (Join p) (p + 1) [] s.0) (marks_at cs w rest ctx k e (named (arity r) (Join p) names) s.1),
+    )
 marks_at cs w (If m r x y rest) ctx k p names h =
     let f = p + 1 + size x in
     let e = p + 1 + size x + size y in
@@ -151,7 +172,8 @@ marks_at cs w (If m r x y rest) ctx k p names h =
     let a = pointwise-split w (p + 1) f (marks x) (marks y ++ marks rest) (omega (arith, length-marks x)) h.1 in
     let b = pointwise-split w f e (marks y) (marks rest) (omega (arith, length-marks y)) a.1 in (
       h.0,
-      marks_are-append w (p + 1) f xs (ys ++ rs) (omega (arith, length-sites cs x (L ∷ ctx) (Join p) (p + 1) [])) (marks_at cs w x (L ∷ ctx) (Join p) (p + 1) [] a.0)
+      marks_are-append w (p + 1) f xs (ys ++ rs) (omega (arith, length-sites cs x (L ∷ ctx) (Join p) (p + 1) []))
+          (marks_at cs w x (L ∷ ctx) (Join p) (p + 1) [] a.0)
           (marks_are-append w f e ys rs (omega (arith, length-sites cs y (L ∷ ctx) (Join p) f [])) (marks_at cs w y (L ∷ ctx) (Join p) f [] b.0) (marks_at cs w rest ctx k e (named (arity r) (Join p) (drop 1 names)) b.1)),
     )
 marks_at cs w (Br m l rest) ctx k p names h = (h.0, marks_are-dead w (p + 1) (size rest))
@@ -195,8 +217,10 @@ one_at i (suc k) p (None ∷ xs) s e is h = one_at i k (p + 1) xs s (omega arith
 one_at i zero p (Some t ∷ xs) s e is h = marked_on t.mark _ (h.0 ∙ here_on i p (omega arith)) (none_past i (p + 1) xs (omega arith) h.1)
 one_at i (suc k) p (Some t ∷ xs) s e is h = marked_off t.mark _ 1 (h.0 ∙ after_off i p (omega arith)) (one_at i k (p + 1) xs s (omega arith) is h.1)
 
-pub one_watched : (cs : Callees) (t : ℕ) (b : Body) (i : ℕ) (s : Site) → IsSite (body_sites cs t (watched_once b i)) i s → trues (live_marks (watched_once b i)) ≡ 1
+pub one_watched : (cs : Callees) (t : ℕ) (b : Body) (i : ℕ) (s : Site) → IsSite (body_sites cs t (watched_once b i)) i s
+    → trues (live_marks (watched_once b i)) ≡ 1
 one_watched cs t b i s is =
     let c = watched_once b i in
     let ctx = body_label t (size c) ∷ [] in
-    ap trues (sym (marks_of cs c ctx Exit 0 [])) ∙ one_at i i 0 (body_sites cs t c) s (omega arith) is (marks_at cs (nat_eq i) c ctx Exit 0 [] (pointwise_marked (nat_eq i) (code_of b.code) 0))
+    ap trues (sym (marks_of cs c ctx Exit 0 []))
+    ∙ one_at i i 0 (body_sites cs t c) s (omega arith) is (marks_at cs (nat_eq i) c ctx Exit 0 [] (pointwise_marked (nat_eq i) (code_of b.code) 0))

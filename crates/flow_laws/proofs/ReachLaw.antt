@@ -20,13 +20,20 @@ use Rattle.flow_domain.specs.Reach.{LiveIn, CallsFunc, by_number, by_table, itse
 use Rattle.flow_laws.specs.Exact.{ExactServes}
 
 -- heights, with more known of each live instruction
-pub shaped_more : (cs : Callees) (X Y : Instr → Type 0) (code : Marked) (ls : List ℕ) (t n : ℕ) → ((op : Instr) → LiveIn op code → Y op) → Shaped cs X ls t code n → Shaped cs Y ls t code n
+pub shaped_more : (cs : Callees) (X Y : Instr → Type 0) (code : Marked) (ls : List ℕ) (t n : ℕ) → ((op : Instr) → LiveIn op code → Y op)
+    → Shaped cs X ls t code n → Shaped cs Y ls t code n
 shaped_more cs X Y End ls t n f s = s
 shaped_more cs X Y (Do m op rest) ls t n f s = (s.0, f op (inl refl), s.2, shaped_more cs X Y rest ls t _ (λ o l. f o (inr l)) s.3)
-shaped_more cs X Y (Block m k body rest) ls t n f s = (shaped_more cs X Y body _ (arity k) 0 (λ o l. f o (inl l)) s.0, shaped_more cs X Y rest ls t _ (λ o l. f o (inr l)) s.1)
-shaped_more cs X Y (Loop m k body rest) ls t n f s = (shaped_more cs X Y body _ (arity k) 0 (λ o l. f o (inl l)) s.0, shaped_more cs X Y rest ls t _ (λ o l. f o (inr l)) s.1)
-shaped_more cs X Y (If m k x y rest) ls t n f s =
-    (s.0, shaped_more cs X Y x _ (arity k) 0 (λ o l. f o (inl l)) s.1, shaped_more cs X Y y _ (arity k) 0 (λ o l. f o (inr (inl l))) s.2, shaped_more cs X Y rest ls t _ (λ o l. f o (inr (inr l))) s.3)
+shaped_more cs X Y (Block m k body rest) ls t n f s =
+    (shaped_more cs X Y body _ (arity k) 0 (λ o l. f o (inl l)) s.0, shaped_more cs X Y rest ls t _ (λ o l. f o (inr l)) s.1)
+shaped_more cs X Y (Loop m k body rest) ls t n f s =
+    (shaped_more cs X Y body _ (arity k) 0 (λ o l. f o (inl l)) s.0, shaped_more cs X Y rest ls t _ (λ o l. f o (inr l)) s.1)
+shaped_more cs X Y (If m k x y rest) ls t n f s = (
+  s.0,
+  shaped_more cs X Y x _ (arity k) 0 (λ o l. f o (inl l)) s.1,
+  shaped_more cs X Y y _ (arity k) 0 (λ o l. f o (inr (inl l))) s.2,
+  shaped_more cs X Y rest ls t _ (λ o l. f o (inr (inr l))) s.3,
+)
 shaped_more cs X Y (Br m l rest) ls t n f s = s
 shaped_more cs X Y (BrIf m l rest) ls t n f s = (s.0, s.1, shaped_more cs X Y rest ls t _ f s.2)
 shaped_more cs X Y (BrTable m labels other rest) ls t n f s = s
@@ -51,7 +58,8 @@ writes_outer m f x (by_host h H r is w) = host_outer H x w
 
 module _ (m : Module) (W : Cover) (exact : WritesExact m W) where
   -- what a live instruction of function f writes, f writes
-  by_form : (f : ℕ) (F : Func) (op : Instr) → func_of m f ≡ Some F → LiveIn op (text F) → (x : Loc) → is_outer x ≡ true → (fm : Form) → form_of op ≡ fm → writes_of W (task_by (callees m) fm) x ≡ true → MayWrite m f x
+  by_form : (f : ℕ) (F : Func) (op : Instr) → func_of m f ≡ Some F → LiveIn op (text F) → (x : Loc) → is_outer x ≡ true → (fm : Form) → form_of op ≡ fm
+      → writes_of W (task_by (callees m) fm) x ≡ true → MayWrite m f x
   by_form f F op is l x out NoForm e w = absurd (true≢false (sym w))
   by_form f F op is l x out (Plain a) e w = by_code f F op a itself is l e w out
   by_form f F op is l x out (CallOf g) e w = go (type_of_func m g) w
@@ -74,7 +82,9 @@ module _ (m : Module) (W : Cover) (exact : WritesExact m W) where
 
 pub exact_serves : ExactServes
 exact_serves m W valid heights exact = record {
-  shaped = λ f F is. shaped_more (callees m) AnyInstr (OpOk (bounds m W) f) (text F) (F.results ∷ []) F.results 0 (λ op l. op_ok m W exact f F is op l) (own_heights m heights f F is);
+  shaped =
+      λ f F is. shaped_more (callees m) AnyInstr (OpOk (bounds m W) f) (text F) (F.results ∷ []) F.results 0 (λ op l. op_ok m W exact f F is op l)
+      (own_heights m heights f F is);
   small = λ f F is. own_small m valid f F is;
   hosts = λ f H is x on. (exact (Own f) x).1 (by_host f H itself is on);
   targets = λ t n f T x on. (exact (Through t n) x).1 (f, T, (exact (Own f) x).0 on);

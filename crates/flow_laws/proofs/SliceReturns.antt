@@ -91,14 +91,16 @@ shaped_marked cs X End ls t n s = s
 shaped_marked cs X (Do m op rest) ls t n s = (s.0, s.1, s.2, shaped_marked cs X rest ls t _ s.3)
 shaped_marked cs X (Block m k body rest) ls t n s = (shaped_marked cs X body _ (arity k) 0 s.0, shaped_marked cs X rest ls t _ s.1)
 shaped_marked cs X (Loop m k body rest) ls t n s = (shaped_marked cs X body _ (arity k) 0 s.0, shaped_marked cs X rest ls t _ s.1)
-shaped_marked cs X (If m k x y rest) ls t n s = (s.0, shaped_marked cs X x _ (arity k) 0 s.1, shaped_marked cs X y _ (arity k) 0 s.2, shaped_marked cs X rest ls t _ s.3)
+shaped_marked cs X (If m k x y rest) ls t n s =
+    (s.0, shaped_marked cs X x _ (arity k) 0 s.1, shaped_marked cs X y _ (arity k) 0 s.2, shaped_marked cs X rest ls t _ s.3)
 shaped_marked cs X (Br m l rest) ls t n s = s
 shaped_marked cs X (BrIf m l rest) ls t n s = (s.0, s.1, shaped_marked cs X rest ls t _ s.2)
 shaped_marked cs X (BrTable m labels other rest) ls t n s = s
 shaped_marked cs X (Return m rest) ls t n s = s
 shaped_marked cs X (Unreachable m rest) ls t n s = s
 
-module _ (m : Module) (W : Cover) (valid : IsValid m) (mok : ModuleOk (bounds m W)) (f i : ℕ) (new : Module) (at : ℕ) (sl : IsSliceOf m W f i new at) (args : List Value) (s : State) (fits : Fits m s) (depth : ℕ) where
+module _ (m : Module) (W : Cover) (valid : IsValid m) (mok : ModuleOk (bounds m W)) (f i : ℕ) (new : Module) (at : ℕ) (sl : IsSliceOf m W f i new at)
+    (args : List Value) (s : State) (fits : Fits m s) (depth : ℕ) where
   abbrev C : Callees
   C = callees m
 
@@ -149,7 +151,8 @@ module _ (m : Module) (W : Cover) (valid : IsValid m) (mok : ModuleOk (bounds m 
       let l = get_below m.funcs (f - import_count m) sl.type sl.own.1 in
       let le = sl.own.0 in
       ap (λ z. if z || not (nat_lt f (length (func_types m))) then None else slice_get m.bodies (f - import_count m)) (lt_off f (import_count m) le)
-      ∙ ap (λ z. if false || not z then None else slice_get m.bodies (f - import_count m)) (lt_on f (length (func_types m)) (below_sum f (import_count m) (length m.funcs) (length (func_types m)) le l types_long))
+      ∙ ap (λ z. if false || not z then None else slice_get m.bodies (f - import_count m))
+      (lt_on f (length (func_types m)) (below_sum f (import_count m) (length m.funcs) (length (func_types m)) le l types_long))
       ∙ sl.has_body.1
 
   func_before : func_of m f ≡ Some F0
@@ -164,10 +167,13 @@ module _ (m : Module) (W : Cover) (valid : IsValid m) (mok : ModuleOk (bounds m 
       let b = valid.0.same in
       let count : func_count m ≡ import_count m + length m.bodies = omega arith in
       let more : length (func_types m1) ≡ func_count m + 1 = ap length types_are ∙ length-append (func_types m) (sl.type ∷ []) in
-      let kind : type_of_func m1 (func_count m) ≡ Some sl.kind = ap (type_numbered m.types) (ap (λ z. slice_get z (func_count m)) types_are ∙ get_last (func_types m) (func_count m) sl.type refl) ∙ sl.kind_is in
+      let kind : type_of_func m1 (func_count m) ≡ Some sl.kind =
+      ap (type_numbered m.types) (ap (λ z. slice_get z (func_count m)) types_are ∙ get_last (func_types m) (func_count m) sl.type refl) ∙ sl.kind_is in
       let body : body_of m1 (func_count m) ≡ Some body1 =
-      ap (λ z. if z || not (nat_lt (func_count m) (length (func_types m1))) then None else slice_get (m.bodies ++ body1 ∷ []) (func_count m - import_count m)) (lt_off (func_count m) (import_count m) (omega arith))
-      ∙ ap (λ z. if false || not z then None else slice_get (m.bodies ++ body1 ∷ []) (func_count m - import_count m)) (lt_on (func_count m) (length (func_types m1)) (omega arith))
+      ap (λ z. if z || not (nat_lt (func_count m) (length (func_types m1))) then None else slice_get (m.bodies ++ body1 ∷ []) (func_count m - import_count m))
+      (lt_off (func_count m) (import_count m) (omega arith))
+      ∙ ap (λ z. if false || not z then None else slice_get (m.bodies ++ body1 ∷ []) (func_count m - import_count m))
+      (lt_on (func_count m) (length (func_types m1)) (omega arith))
       ∙ get_last m.bodies (func_count m - import_count m) body1 (minus_is (func_count m) (import_count m) (length m.bodies) count) in
       ap₂ {A = Option FuncType} {B = Option Body} func_from kind body
 
@@ -179,7 +185,9 @@ module _ (m : Module) (W : Cover) (valid : IsValid m) (mok : ModuleOk (bounds m 
   heights =
       let a = mok.shaped f F0 func_before in
       let b = shaped_more C (OpOk (bounds m W) f) AnyInstr (text F0) (F0.results ∷ []) F0.results 0 (λ op l. tt) a in
-      subst (λ z. Shaped C AnyInstr (z ∷ []) z c 0) (sym arity_is) (shaped_marked C AnyInstr c (F0.results ∷ []) F0.results 0 (subst (λ z. Shaped C AnyInstr (F0.results ∷ []) F0.results z 0) (sym (bare_marked (nat_eq i) (code_of sl.body.code) 0)) b))
+      subst (λ z. Shaped C AnyInstr (z ∷ []) z c 0) (sym arity_is)
+      (shaped_marked C AnyInstr c (F0.results ∷ []) F0.results 0
+      (subst (λ z. Shaped C AnyInstr (F0.results ∷ []) F0.results z 0) (sym (bare_marked (nat_eq i) (code_of sl.body.code) 0)) b))
 
   cuts : Cuts (bounds m W) t c sl.kept sl.makers sl.present
   cuts = record {
@@ -190,7 +198,10 @@ module _ (m : Module) (W : Cover) (valid : IsValid m) (mok : ModuleOk (bounds m 
 
   -- the code calls functions of the module, and so does its cut
   old : AllOld m k
-  old = old_cut m sl.kept sl.present sl.types c t 0 [] (old_leads (context_of m sl.kind sl.body) (sl.kind.results ∷ []) (code_of sl.body.code) [] sl.kind.results (valid.1 (part.FuncAt f) sl.kind sl.body kind_before sl.has_body) (nat_eq i) 0)
+  old =
+      old_cut m sl.kept sl.present sl.types c t 0 []
+      (old_leads (context_of m sl.kind sl.body) (sl.kind.results ∷ []) (code_of sl.body.code) [] sl.kind.results
+      (valid.1 (part.FuncAt f) sl.kind sl.body kind_before sl.has_body) (nat_eq i) 0)
 
   plainly : Plainly k
   plainly = plainly_cut C sl.kept sl.present sl.types c t 0 [] (plainly_marked (nat_eq i) (code_of sl.body.code) 0 (leafy_code sl.body.code))
@@ -202,7 +213,8 @@ module _ (m : Module) (W : Cover) (valid : IsValid m) (mok : ModuleOk (bounds m 
       let K = among_live S sl.kept in
       let M = among_live S sl.makers in
       ap (λ z. trues (marks z)) (sym (live_cut C t c sl.kept sl.present sl.types))
-      ∙ cut_marks Z W (Lawful (bounds m W) (AnyRound (bounds m W))) K M sl.present sl.types (NeedK (bounds m W) (RowOf m (AnyRound (bounds m W))) S K M) c (body_label (arity t) (size c) ∷ []) true Exit t 0 []
+      ∙ cut_marks Z W (Lawful (bounds m W) (AnyRound (bounds m W))) K M sl.present sl.types (NeedK (bounds m W) (RowOf m (AnyRound (bounds m W))) S K M) c
+      (body_label (arity t) (size c) ∷ []) true Exit t 0 []
       (body_closed Z W (record { module_ok = mok; fits = table_fits m s fits }) t c K M sl.present (live_cuts (bounds m W) t c sl.kept sl.makers sl.present cuts) (live_stands S sl.kept))
       ∙ one_watched C (length sl.kind.results) sl.body i sl.site sl.live
 
@@ -225,24 +237,30 @@ module _ (m : Module) (W : Cover) (valid : IsValid m) (mok : ModuleOk (bounds m 
       let there = (appended_keep m valid (sl.type ∷ []) (body1 ∷ []) sl.exports sl.only s fits).runs depth (arity t ∷ []) k old start in
       subst (λ z. Follows first_run z) (sym there) (slice_follows m W mok t c sl.kept sl.makers sl.present sl.types cuts s fits depth start refl ret)
 
-  both_return : IsReturn (own_run m depth (nat_eq i) F0 args s).outcome → Follows (own_run m depth (nat_eq i) F0 args s) (own_run m1 depth (nat_eq (watched_at k)) F1 args s)
+  both_return : IsReturn (own_run m depth (nat_eq i) F0 args s).outcome
+      → Follows (own_run m depth (nat_eq i) F0 args s) (own_run m1 depth (nat_eq (watched_at k)) F1 args s)
   both_return ret =
       subst (λ z. Follows (own_run m depth (nat_eq i) F0 args s) z) (sym after_is) (subst (λ z. Follows z second_run) (sym before_is)
       (follows_there (subst (λ z. IsReturn z.outcome) before_is ret)))
 
-  pub returns_too : (n : ℕ) (results : List Value) (last : State) (events : List Event) → (func : Func) → func_of m f ≡ Some func → IsReturn (own_run m depth (nat_eq i) func args s).outcome → (own_run m depth (nat_eq i) func args s).there.store.state ≡ last → (own_run m depth (nat_eq i) func args s).events ≡ events → last.turns ≤ s.turns + n → ReturnsToo m1 (func_count m) (watched_at k) args s n last events
+  pub returns_too : (n : ℕ) (results : List Value) (last : State) (events : List Event) → (func : Func) → func_of m f ≡ Some func
+      → IsReturn (own_run m depth (nat_eq i) func args s).outcome → (own_run m depth (nat_eq i) func args s).there.store.state ≡ last
+      → (own_run m depth (nat_eq i) func args s).events ≡ events → last.turns ≤ s.turns + n → ReturnsToo m1 (func_count m) (watched_at k) args s n last events
   returns_too n results last events func is ret fin ev turns =
       let same : F0 ≡ func = some_func F0 func (sym func_before ∙ is) in
       let before = own_run m depth (nat_eq i) F0 args s in
       let after = own_run m1 depth (nat_eq (watched_at k)) F1 args s in
       let fo = both_return (subst (λ z. IsReturn (own_run m depth (nat_eq i) z args s).outcome) (sym same) ret) in
-      let fin1 : before.there.store.state.turns ≡ last.turns = ap (λ z. (own_run m depth (nat_eq i) z args s).there.store.state.turns) same ∙ ap (λ z. z.turns) fin in
+      let fin1 : before.there.store.state.turns ≡ last.turns =
+      ap (λ z. (own_run m depth (nat_eq i) z args s).there.store.state.turns) same ∙ ap (λ z. z.turns) fin in
       let ev1 : before.events ≡ events = ap (λ z. (own_run m depth (nat_eq i) z args s).events) same ∙ ev in
       let le : after.there.store.state.turns ≤ before.there.store.state.turns = fo.turns in
       record {
         results = after.there.stack;
         final = after.there.store.state;
-        returns = returns_own m1 (func_count m) (watched_at k) args s n after.there.stack after.there.store.state events (record { func = F1; is = func_after; depth = depth; returns = fo.returns; gives = refl; ends = refl; shows = fo.events ∙ ev1; turns = omega arith });
+        returns =
+            returns_own m1 (func_count m) (watched_at k) args s n after.there.stack after.there.store.state events
+            (record { func = F1; is = func_after; depth = depth; returns = fo.returns; gives = refl; ends = refl; shows = fo.events ∙ ev1; turns = omega arith });
         turns = omega arith;
       }
 

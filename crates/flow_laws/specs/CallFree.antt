@@ -31,7 +31,9 @@ IsClosedAlone cs S ends K = IsClosed cs (WritesAt cs no_calls S) (UsesAt cs no_c
 
 -- In a body that calls nothing such a set keeps the rules of slices, for nodes and for makers.
 abbrev pub ClosedServes : Type 0
-ClosedServes = (B : Bounds) (S : Sites) (ends : List EndAt) (K : Node → Bool) → CallsNothing (callees B.m) S → IsClosedAlone (callees B.m) S ends K → IsKept B (RowOf B.m (AnyRound B)) S ends K K
+ClosedServes =
+    (B : Bounds) (S : Sites) (ends : List EndAt) (K : Node → Bool) → CallsNothing (callees B.m) S → IsClosedAlone (callees B.m) S ends K
+    → IsKept B (RowOf B.m (AnyRound B)) S ends K K
 
 -- So whenever a function of a valid module returns, and nothing is called in its body, its slice returns from the same start, after no more turns and with
 -- the same events.

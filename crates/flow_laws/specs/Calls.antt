@@ -34,7 +34,8 @@ AnyInstr op = Unit {0}
 -- heights are kept in each own function's body
 abbrev pub HasHeights : Module → Type 0
 HasHeights m =
-    (f : ℕ) (t : FuncType) (b : Body) → type_of_func m f ≡ Some t → HasBody m f b → Shaped (callees m) AnyInstr (length t.results ∷ []) (length t.results) (watched_code unwatched b) 0
+    (f : ℕ) (t : FuncType) (b : Body) → type_of_func m f ≡ Some t → HasBody m f b → Shaped (callees m) AnyInstr (length t.results ∷ []) (length t.results)
+    (watched_code unwatched b) 0
 
 -- heights are kept in each body, and the cover's sets hold what functions and targets write, and no locals
 pub record ModuleOk (B : Bounds) : Type 0 where
@@ -61,7 +62,8 @@ SameOn row vs vs' st st' = (x : Loc) → row x → EqAt x (begun vs st) (begun v
 -- two invocations that return agree on each output on whose row they began equal
 abbrev pub TwoLaw : Rows → Module → Calls → Type 0
 TwoLaw R m c =
-    (f : ℕ) (t : FuncType) → type_of_func m f ≡ Some t → (o : Output) (vs vs' : List Value) → length vs ≡ length t.params → length vs' ≡ length t.params → (st st' : Store) (e e' : Effect) → SameOn (R f o) vs vs' st st' → c f vs st ≡ Gives e → c f vs' st' ≡ Gives e' → AgreeOn o e e'
+    (f : ℕ) (t : FuncType) → type_of_func m f ≡ Some t → (o : Output) (vs vs' : List Value) → length vs ≡ length t.params → length vs' ≡ length t.params
+    → (st st' : Store) (e e' : Effect) → SameOn (R f o) vs vs' st st' → c f vs st ≡ Gives e → c f vs' st' ≡ Gives e' → AgreeOn o e e'
 
 -- what a call does at all
 pub record CallDoes (W : Loc → Bool) (r : ℕ) (st : Store) (e : Effect) : Type 0 where
@@ -70,7 +72,9 @@ pub record CallDoes (W : Loc → Bool) (r : ℕ) (st : Store) (e : Effect) : Typ
   pub turns : st.state.turns ≤ e.store.state.turns
 
 abbrev pub DoesLaw : Bounds → Calls → Type 0
-DoesLaw B c = (f : ℕ) (t : FuncType) → type_of_func B.m f ≡ Some t → (vs : List Value) (st : Store) (e : Effect) → c f vs st ≡ Gives e → CallDoes (B.cover.writes (Own f)) (length t.results) st e
+DoesLaw B c =
+    (f : ℕ) (t : FuncType) → type_of_func B.m f ≡ Some t → (vs : List Value) (st : Store) (e : Effect) → c f vs st ≡ Gives e
+    → CallDoes (B.cover.writes (Own f)) (length t.results) st e
 
 -- where a call returns from one start, it returns from a start that is equal on its row for Done, after as many turns
 pub record CallComes (c : Calls) (f : ℕ) (vs' : List Value) (st st' : Store) (e : Effect) : Type 0 where
@@ -80,4 +84,5 @@ pub record CallComes (c : Calls) (f : ℕ) (vs' : List Value) (st st' : Store) (
 
 abbrev pub DoneLaw : Rows → Module → Calls → Type 0
 DoneLaw R m c =
-    (f : ℕ) (t : FuncType) → type_of_func m f ≡ Some t → (vs vs' : List Value) → length vs ≡ length t.params → length vs' ≡ length t.params → (st st' : Store) (e : Effect) → SameOn (R f Done) vs vs' st st' → c f vs st ≡ Gives e → CallComes c f vs' st st' e
+    (f : ℕ) (t : FuncType) → type_of_func m f ≡ Some t → (vs vs' : List Value) → length vs ≡ length t.params → length vs' ≡ length t.params → (st st' : Store)
+    (e : Effect) → SameOn (R f Done) vs vs' st st' → c f vs st ≡ Gives e → CallComes c f vs' st st' e
