@@ -35,7 +35,8 @@ pub data Reached (m : Module) : ℕ → ℕ → Type 0 where
 
 -- a reached function writes the location, locals left out
 pub data MayWrite (m : Module) (f : ℕ) (x : Loc) : Type 0 where
-  by_code : (g : ℕ) (F : Func) (op : Instr) (a : Action) → Reached m f g → func_of m g ≡ Some F → LiveIn op (text F) → form_of op ≡ Plain a → writes_in a x ≡ true → is_outer x ≡ true → MayWrite m f x
+  by_code : (g : ℕ) (F : Func) (op : Instr) (a : Action) → Reached m f g → func_of m g ≡ Some F → LiveIn op (text F) → form_of op ≡ Plain a
+      → writes_in a x ≡ true → is_outer x ≡ true → MayWrite m f x
   by_host : (g : ℕ) (H : HostFunc) → Reached m f g → host_of m g ≡ Some H → host_writes H x ≡ true → MayWrite m f x
 
 -- through the table one of the targets does

@@ -1,5 +1,5 @@
 -- What an output of a function leads to, in rounds over the rows of the functions called (docs/ANALYSES.md, "Rows").
-use Rattle.std.specs.Prelude.{◌≡◌, ℕ, zero, suc, ◌<◌, ◌⊎◌, List, reverse, Bool, true, false, Option, Some, None, take, length, slice_get}
+use Rattle.std.specs.Prelude.{◌≡◌, ℕ, zero, suc, ◌<◌, ◌⊎◌, List, reverse, Bool, true, false, Some, None, take, length, slice_get}
 use Rattle.wasm_types.specs.declared.module.FuncType.{FuncType}
 use Rattle.wasm_types.specs.declared.module.Module.{Module}
 use Rattle.wasm_types.specs.declared.instr.Instr.{Instr}
@@ -75,16 +75,25 @@ pub data Led (B : Bounds) (R : CallRows) (S : Sites) (ends : List EndAt) (o : Ou
   done_branch : {p : ℕ} (l : ℕ) (s : Site) → o ≡ Done → IsSite S p s → Branches s.head l → loop_of s.around l ≡ true → Led B R S ends o (Decider p)
   done_trap : {p : ℕ} (op : Instr) (s : Site) → o ≡ Done → IsSite S p s → s.head ≡ DoHead op → may_trap B op ≡ true → Led B R S ends o (Makes (At p) Done)
   done_unreachable : {p : ℕ} (s : Site) → o ≡ Done → IsSite S p s → s.head ≡ UnreachableHead → Led B R S ends o (Makes (At p) Done)
-  writer : {x : Loc} {d : ℕ} (a : Node) → Led B R S ends o (Place a x) → Writes (written_by B S) x (At d) → Path (written_by B S) S x (At d) a → Led B R S ends o (Makes (At d) (Final x))
-  operand : {n : Node} (p k : ℕ) (out : Output) (s : Site) (op : Instr) → Led B R S ends o (Makes (At p) out) → IsSite S p s → s.head ≡ DoHead op → called B op ≡ None → needs_operand B op out k → slice_get (take (takes (callees B.m) op) s.names) k ≡ Some n → Led B R S ends o (Makes n Ret)
-  reading : {p : ℕ} {x : Loc} (out : Output) (s : Site) (op : Instr) → Led B R S ends o (Makes (At p) out) → IsSite S p s → s.head ≡ DoHead op → needs_place B op out x → Led B R S ends o (Place (At p) x)
-  argument : {n : Node} (p k : ℕ) (g : Callee) (out : Output) (s : Site) (op : Instr) → Led B R S ends o (Makes (At p) out) → IsSite S p s → s.head ≡ DoHead op → called B op ≡ Some g → R g out (Local k) → slice_get (reverse (take (takes (callees B.m) op) s.names)) k ≡ Some n → Led B R S ends o (Makes n Ret)
-  place : {p : ℕ} {x : Loc} (g : Callee) (out : Output) (s : Site) (op : Instr) → Led B R S ends o (Makes (At p) out) → IsSite S p s → s.head ≡ DoHead op → called B op ≡ Some g → R g out x → is_outer x ≡ true → Led B R S ends o (Place (At p) x)
-  carrying : {n : Node} (p l k : ℕ) (s : Site) → Led B R S ends o (Makes (join_of s.around l) Ret) → IsSite S p s → Branches s.head l → slice_get (take (carried (arities s.around) l) (carry_names s.head s.names)) k ≡ Some n → Led B R S ends o (Makes n Ret)
-  ending : {n : Node} (e : EndAt) (k : ℕ) → Led B R S ends o (Makes e.owner Ret) → Among ends e → slice_get (take e.count e.names) k ≡ Some n → Led B R S ends o (Makes n Ret)
+  writer : {x : Loc} {d : ℕ} (a : Node) → Led B R S ends o (Place a x) → Writes (written_by B S) x (At d) → Path (written_by B S) S x (At d) a
+      → Led B R S ends o (Makes (At d) (Final x))
+  operand : {n : Node} (p k : ℕ) (out : Output) (s : Site) (op : Instr) → Led B R S ends o (Makes (At p) out) → IsSite S p s → s.head ≡ DoHead op
+      → called B op ≡ None → needs_operand B op out k → slice_get (take (takes (callees B.m) op) s.names) k ≡ Some n → Led B R S ends o (Makes n Ret)
+  reading : {p : ℕ} {x : Loc} (out : Output) (s : Site) (op : Instr) → Led B R S ends o (Makes (At p) out) → IsSite S p s → s.head ≡ DoHead op
+      → needs_place B op out x → Led B R S ends o (Place (At p) x)
+  argument : {n : Node} (p k : ℕ) (g : Callee) (out : Output) (s : Site) (op : Instr) → Led B R S ends o (Makes (At p) out) → IsSite S p s
+      → s.head ≡ DoHead op → called B op ≡ Some g → R g out (Local k) → slice_get (reverse (take (takes (callees B.m) op) s.names)) k ≡ Some n
+      → Led B R S ends o (Makes n Ret)
+  place : {p : ℕ} {x : Loc} (g : Callee) (out : Output) (s : Site) (op : Instr) → Led B R S ends o (Makes (At p) out) → IsSite S p s → s.head ≡ DoHead op
+      → called B op ≡ Some g → R g out x → is_outer x ≡ true → Led B R S ends o (Place (At p) x)
+  carrying : {n : Node} (p l k : ℕ) (s : Site) → Led B R S ends o (Makes (join_of s.around l) Ret) → IsSite S p s → Branches s.head l
+      → slice_get (take (carried (arities s.around) l) (carry_names s.head s.names)) k ≡ Some n → Led B R S ends o (Makes n Ret)
+  ending : {n : Node} (e : EndAt) (k : ℕ) → Led B R S ends o (Makes e.owner Ret) → Among ends e → slice_get (take e.count e.names) k ≡ Some n
+      → Led B R S ends o (Makes n Ret)
   deciding : {p : ℕ} (n : Node) (out : Output) → Led B R S ends o (Makes n out) → InShadow S p n → Led B R S ends o (Decider p)
   deciding_again : {p : ℕ} (q : ℕ) → Led B R S ends o (Decider q) → InShadow S p (At q) → Led B R S ends o (Decider p)
-  condition : {n : Node} (p k : ℕ) (s : Site) → Led B R S ends o (Decider p) → IsSite S p s → slice_get (take (operand_count (callees B.m) s.head) s.names) k ≡ Some n → Led B R S ends o (Makes n Ret)
+  condition : {n : Node} (p k : ℕ) (s : Site) → Led B R S ends o (Decider p) → IsSite S p s
+      → slice_get (take (operand_count (callees B.m) s.head) s.names) k ≡ Some n → Led B R S ends o (Makes n Ret)
 
 -- a location is needed at a point: it is led to at a point that nothing written before reaches
 pub record Needed (B : Bounds) (R : CallRows) (S : Sites) (ends : List EndAt) (o : Output) (a : Node) (x : Loc) : Type 0 where
@@ -124,7 +133,8 @@ ImportRows m f o x = (H : HostFunc) × (host_of m f ≡ Some H) × HostRow H o x
 
 -- with these rows for the functions called, output o of f leads to input x
 pub data LedTo (R : Rows) (B : Bounds) (f : ℕ) (o : Output) (x : Loc) : Type 0 where
-  by_code : (F : Func) → func_of B.m f ≡ Some F → Needed B (RowOf B.m R) (func_sites B F) (func_ends B F) o (first 0 (text F) Exit) x → IsInput F.params x → LedTo R B f o x
+  by_code : (F : Func) → func_of B.m f ≡ Some F → Needed B (RowOf B.m R) (func_sites B F) (func_ends B F) o (first 0 (text F) Exit) x → IsInput F.params x
+      → LedTo R B f o x
   by_host : ImportRows B.m f o x → LedTo R B f o x
 
 -- round n: in round 0 the rows of the own functions called are empty

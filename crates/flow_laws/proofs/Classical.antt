@@ -80,7 +80,9 @@ list_decided : {A : Type 0} → ((x y : A) → Decided (x ≡ y)) → (xs ys : L
 list_decided d [] [] = inl refl
 list_decided d [] (y ∷ ys) = inr (λ e. grind arith)
 list_decided d (x ∷ xs) [] = inr (λ e. grind arith)
-list_decided {A = A} d (x ∷ xs) (y ∷ ys) = decided_by ((x ≡ y) × (xs ≡ ys)) (x ∷ xs ≡ y ∷ ys) (λ z. ap₂ {A = A} {B = List A} (λ a b. a ∷ b) z.0 z.1) (λ e. (heads x y xs ys e, rests x y xs ys e)) (both_decided (x ≡ y) (xs ≡ ys) (d x y) (list_decided d xs ys))
+list_decided {A = A} d (x ∷ xs) (y ∷ ys) =
+    decided_by ((x ≡ y) × (xs ≡ ys)) (x ∷ xs ≡ y ∷ ys) (λ z. ap₂ {A = A} {B = List A} (λ a b. a ∷ b) z.0 z.1) (λ e. (heads x y xs ys e, rests x y xs ys e))
+    (both_decided (x ≡ y) (xs ≡ ys) (d x y) (list_decided d xs ys))
 
 value_number : Value → ℕ
 value_number (value.I32 n) = n
@@ -106,7 +108,8 @@ int_decided (negsuc a) (negsuc b) = decided_by (a ≡ b) (negsuc a ≡ negsuc b)
 
 pair_decided : {A B : Type 0} → ((x y : A) → Decided (x ≡ y)) → ((x y : B) → Decided (x ≡ y)) → (a b : A × B) → Decided (a ≡ b)
 pair_decided {A = A} {B = B} f g a b =
-    decided_by ((a.0 ≡ b.0) × (a.1 ≡ b.1)) (a ≡ b) (λ z. ap₂ {A = A} {B = B} (λ x y. (x, y)) z.0 z.1) (λ e. (ap (λ z. z.0) e, ap (λ z. z.1) e)) (both_decided (a.0 ≡ b.0) (a.1 ≡ b.1) (f a.0 b.0) (g a.1 b.1))
+    decided_by ((a.0 ≡ b.0) × (a.1 ≡ b.1)) (a ≡ b) (λ z. ap₂ {A = A} {B = B} (λ x y. (x, y)) z.0 z.1) (λ e. (ap (λ z. z.0) e, ap (λ z. z.1) e))
+    (both_decided (a.0 ≡ b.0) (a.1 ≡ b.1) (f a.0 b.0) (g a.1 b.1))
 
 get_or_else : {A : Type 0} → Option A → A → A
 get_or_else None d = d
@@ -121,24 +124,32 @@ option_decided f (Some a) (Some b) = decided_by (a ≡ b) (Some a ≡ Some b) (�
 
 reply_is : (a b : Reply) → a.result ≡ b.result → a.globals ≡ b.globals → a.bytes ≡ b.bytes → a ≡ b
 reply_is a b e f g =
-    ap (λ z. record { result = z; globals = a.globals; bytes = a.bytes }) e ∙ ap (λ z. record { result = b.result; globals = z; bytes = a.bytes }) f ∙ ap (λ z. record { result = b.result; globals = b.globals; bytes = z }) g
+    ap (λ z. record { result = z; globals = a.globals; bytes = a.bytes }) e ∙ ap (λ z. record { result = b.result; globals = z; bytes = a.bytes }) f
+    ∙ ap (λ z. record { result = b.result; globals = b.globals; bytes = z }) g
 
 reply_decided : (a b : Reply) → Decided (a ≡ b)
 reply_decided a b =
-    decided_by ((a.result ≡ b.result) × ((a.globals ≡ b.globals) × (a.bytes ≡ b.bytes))) (a ≡ b) (λ z. reply_is a b z.0 z.1.0 z.1.1) (λ e. (ap (λ z. z.result) e, (ap (λ z. z.globals) e, ap (λ z. z.bytes) e)))
+    decided_by ((a.result ≡ b.result) × ((a.globals ≡ b.globals) × (a.bytes ≡ b.bytes))) (a ≡ b) (λ z. reply_is a b z.0 z.1.0 z.1.1)
+    (λ e. (ap (λ z. z.result) e, (ap (λ z. z.globals) e, ap (λ z. z.bytes) e)))
     (both_decided (a.result ≡ b.result) ((a.globals ≡ b.globals) × (a.bytes ≡ b.bytes)) (option_decided int_decided a.result b.result) (both_decided (a.globals ≡ b.globals) (a.bytes ≡ b.bytes) (list_decided (pair_decided nat_decided int_decided) a.globals b.globals) (list_decided (pair_decided nat_decided (list_decided nat_decided)) a.bytes b.bytes)))
 
 memory_decided : (a b : ShownMemory) → Decided (a ≡ b)
-memory_decided a b = decided_by ((a.pages ≡ b.pages) × (a.bytes ≡ b.bytes)) (a ≡ b) (λ z. ap₂ {A = ℕ} {B = List ℕ} (λ x y. record { pages = x; bytes = y }) z.0 z.1) (λ e. (ap (λ z. z.pages) e, ap (λ z. z.bytes) e)) (both_decided (a.pages ≡ b.pages) (a.bytes ≡ b.bytes) (nat_decided a.pages b.pages) (list_decided nat_decided a.bytes b.bytes))
+memory_decided a b =
+    decided_by ((a.pages ≡ b.pages) × (a.bytes ≡ b.bytes)) (a ≡ b) (λ z. ap₂ {A = ℕ} {B = List ℕ} (λ x y. record { pages = x; bytes = y }) z.0 z.1)
+    (λ e. (ap (λ z. z.pages) e, ap (λ z. z.bytes) e))
+    (both_decided (a.pages ≡ b.pages) (a.bytes ≡ b.bytes) (nat_decided a.pages b.pages) (list_decided nat_decided a.bytes b.bytes))
 
 call_is : (a b : HostCall) → (a.import ≡ b.import) × ((a.args ≡ b.args) × ((a.globals ≡ b.globals) × (a.memory ≡ b.memory))) → a ≡ b
 call_is a b z =
-    ap (λ y. record { import = y; args = a.args; globals = a.globals; memory = a.memory }) z.0 ∙ ap (λ y. record { import = b.import; args = y; globals = a.globals; memory = a.memory }) z.1.0
-    ∙ ap (λ y. record { import = b.import; args = b.args; globals = y; memory = a.memory }) z.1.1.0 ∙ ap (λ y. record { import = b.import; args = b.args; globals = b.globals; memory = y }) z.1.1.1
+    ap (λ y. record { import = y; args = a.args; globals = a.globals; memory = a.memory }) z.0
+    ∙ ap (λ y. record { import = b.import; args = y; globals = a.globals; memory = a.memory }) z.1.0
+    ∙ ap (λ y. record { import = b.import; args = b.args; globals = y; memory = a.memory }) z.1.1.0
+    ∙ ap (λ y. record { import = b.import; args = b.args; globals = b.globals; memory = y }) z.1.1.1
 
 call_decided : (a b : HostCall) → Decided (a ≡ b)
 call_decided a b =
-    decided_by ((a.import ≡ b.import) × ((a.args ≡ b.args) × ((a.globals ≡ b.globals) × (a.memory ≡ b.memory)))) (a ≡ b) (call_is a b) (λ e. (ap (λ z. z.import) e, (ap (λ z. z.args) e, (ap (λ z. z.globals) e, ap (λ z. z.memory) e))))
+    decided_by ((a.import ≡ b.import) × ((a.args ≡ b.args) × ((a.globals ≡ b.globals) × (a.memory ≡ b.memory)))) (a ≡ b) (call_is a b)
+    (λ e. (ap (λ z. z.import) e, (ap (λ z. z.args) e, (ap (λ z. z.globals) e, ap (λ z. z.memory) e))))
     (both_decided _ _ (nat_decided a.import b.import) (both_decided _ _ (list_decided value_decided a.args b.args) (both_decided _ _ (list_decided value_decided a.globals b.globals) (option_decided memory_decided a.memory b.memory))))
 
 replies_of : Host → List Reply → List Reply
@@ -155,7 +166,8 @@ unfolding replies_of asked_of
 host_stable (Script r) (Script s) n = ap Script (stable_of (r ≡ s) (list_decided reply_decided r s) (λ f. n (λ e. f (ap (λ z. replies_of z r) e))))
 host_stable (Script r) (Answers g) n = absurd (n (λ e. grind arith))
 host_stable (Answers f) (Script s) n = absurd (n (λ e. grind arith))
-host_stable (Answers f) (Answers g) n = ap Answers (fun_ext (λ x. stable_of (f x ≡ g x) (option_decided reply_decided (f x) (g x)) (λ k. n (λ e. k (ap (λ z. asked_of z f x) e)))))
+host_stable (Answers f) (Answers g) n =
+    ap Answers (fun_ext (λ x. stable_of (f x ≡ g x) (option_decided reply_decided (f x) (g x)) (λ k. n (λ e. k (ap (λ z. asked_of z f x) e)))))
 
 pub nat_stable : (x y : ℕ) → NN (x ≡ y) → x ≡ y
 nat_stable x y n = stable_of (x ≡ y) (nat_decided x y) n
@@ -215,8 +227,16 @@ test_more Q L t d = go d
     holds_by b f p lt q (inr off) = there p false off refl b ∙ t.holds p (less p lt off) q
 
     go : Decided (Q L) → TestBelow Q (suc L)
-    go (inl a) = record { test = pick_at true; says = λ p lt on. says_by true (λ e. a) p lt on (split p _ refl); holds = λ p lt q. holds_by true (λ e. refl) p lt q (split p _ refl) }
-    go (inr f) = record { test = pick_at false; says = λ p lt on. says_by false (λ e. absurd (true≢false (sym e))) p lt on (split p _ refl); holds = λ p lt q. holds_by false (λ e. absurd (f e)) p lt q (split p _ refl) }
+    go (inl a) = record {
+      test = pick_at true;
+      says = λ p lt on. says_by true (λ e. a) p lt on (split p _ refl);
+      holds = λ p lt q. holds_by true (λ e. refl) p lt q (split p _ refl);
+    }
+    go (inr f) = record {
+      test = pick_at false;
+      says = λ p lt on. says_by false (λ e. absurd (true≢false (sym e))) p lt on (split p _ refl);
+      holds = λ p lt q. holds_by false (λ e. absurd (f e)) p lt q (split p _ refl);
+    }
 
 nn_test : (Q : ℕ → Type 0) (L : ℕ) → NN (TestBelow Q L)
 nn_test Q zero f = f (record { test = λ p. false; says = λ p lt. absurd (omega arith); holds = λ p lt. absurd (omega arith) })
@@ -233,7 +253,8 @@ InRange L (node.At p) = p.0 < L
 InRange L (node.Join p) = p.0 < L
 InRange L Exit = Unit {0}
 
-node_test : (Q : Node → Type 0) (L : ℕ) → ((n : Node) → Q n → InRange L n) → TestBelow (λ p. Q (At p)) L → TestBelow (λ p. Q (Join p)) L → Decided (Q Exit) → NodeTest Q
+node_test : (Q : Node → Type 0) (L : ℕ) → ((n : Node) → Q n → InRange L n) → TestBelow (λ p. Q (At p)) L → TestBelow (λ p. Q (Join p)) L → Decided (Q Exit)
+    → NodeTest Q
 node_test Q L range a j d = record { test = test; says = says; holds = holds }
   where
     yes_no : Decided (Q Exit) → Bool
@@ -296,16 +317,20 @@ made_range B F Exit m = tt
 -- what is led to can be tested, as far as what is decided goes
 pub nn_tests : (Z : Fixed) (W : Cover) (ok : FixedOk Z W) (R : Rows) (F : Func) (o : Output) → NN (Tests Z W ok R F o)
 nn_tests Z W ok R F o f =
-    nn_node_test (AtNode (bounds Z.m W) (RowOf Z.m R) (func_sites (bounds Z.m W) F) (func_ends (bounds Z.m W) F) o) (length (func_sites (bounds Z.m W) F)) at_range (λ k. nn_node_test (λ n. Led (bounds Z.m W) (RowOf Z.m R) (func_sites (bounds Z.m W) F) (func_ends (bounds Z.m W) F) o (Makes n Ret)) (length (func_sites (bounds Z.m W) F)) (λ n led. made_range (bounds Z.m W) F n (led_fine (bounds Z.m W) (RowOf Z.m R) F o (Makes n Ret) led)) (λ m. f (record {
+    nn_node_test (AtNode (bounds Z.m W) (RowOf Z.m R) (func_sites (bounds Z.m W) F) (func_ends (bounds Z.m W) F) o) (length (func_sites (bounds Z.m W) F))
+    at_range
+    (λ k. nn_node_test (λ n. Led (bounds Z.m W) (RowOf Z.m R) (func_sites (bounds Z.m W) F) (func_ends (bounds Z.m W) F) o (Makes n Ret)) (length (func_sites (bounds Z.m W) F)) (λ n led. made_range (bounds Z.m W) F n (led_fine (bounds Z.m W) (RowOf Z.m R) F o (Makes n Ret) led)) (λ m. f (record {
       K = k.test;
       M = m.test;
       sets = record { k_has = k.says; k_is = k.holds; m_has = m.says; m_is = m.holds };
       apt = apt_of (bounds Z.m W) (RowOf Z.m R) F o;
     })))
   where
-    at_range : (n : Node) → AtNode (bounds Z.m W) (RowOf Z.m R) (func_sites (bounds Z.m W) F) (func_ends (bounds Z.m W) F) o n → InRange (length (func_sites (bounds Z.m W) F)) n
+    at_range : (n : Node) → AtNode (bounds Z.m W) (RowOf Z.m R) (func_sites (bounds Z.m W) F) (func_ends (bounds Z.m W) F) o n
+        → InRange (length (func_sites (bounds Z.m W) F)) n
     at_range n (makes_it out led) = made_range (bounds Z.m W) F n (led_fine (bounds Z.m W) (RowOf Z.m R) F o (Makes n out) led)
-    at_range n (decides_it {p = p} led) = let a = led_fine (bounds Z.m W) (RowOf Z.m R) F o (Decider p) led in site_below (func_sites (bounds Z.m W) F) p (Some a.site) a.is
+    at_range n (decides_it {p = p} led) =
+        let a = led_fine (bounds Z.m W) (RowOf Z.m R) F o (Decider p) led in site_below (func_sites (bounds Z.m W) F) p (Some a.site) a.is
 
 -- rows that hold what they lead to are sound, for calls of all functions, whatever number is left
 pub two_laws : (Z : Fixed) (W : Cover) → FixedOk Z W → (R : Rows) → Holds (bounds Z.m W) R → (n m : ℕ) → m ≤ n → TwoLaw R Z.m (below Z (calls Z) m).call
@@ -316,17 +341,29 @@ two_laws Z W ok R holds = by_number Z (TwoLaw R Z.m) (λ f t is o vs vs' lv lv' 
       where
         go : (w : Option Func) → func_of Z.m f ≡ w → call_own Z (below Z (calls Z) n) w vs (turned st) ≡ Gives e → AgreeOn o e e'
         go None e1 q1 = stops_give e q1
-        go (Some F) e1 q1 = let h = has_type Z.m f F t e1 is in agree_stable o e e' (λ no. nn_tests Z W ok R F o (λ ts. no (one_step Z W ok R holds n below_it f F e1 o ts vs vs' (lv ∙ sym h.params) (lv' ∙ sym h.params) st st' e e' same q q')))
+        go (Some F) e1 q1 =
+            let h = has_type Z.m f F t e1 is in
+            agree_stable o e e'
+            (λ no. nn_tests Z W ok R F o
+            (λ ts. no (one_step Z W ok R holds n below_it f F e1 o ts vs vs' (lv ∙ sym h.params) (lv' ∙ sym h.params) st st' e e' same q q')))
 
-        by_host : (w : Option HostFunc) → host_of Z.m f ≡ w → call_by Z (below Z (calls Z) n) w f vs (turned st) ≡ Gives e → call_by Z (below Z (calls Z) n) w f vs' (turned st') ≡ Gives e' → AgreeOn o e e'
+        by_host : (w : Option HostFunc) → host_of Z.m f ≡ w → call_by Z (below Z (calls Z) n) w f vs (turned st) ≡ Gives e
+            → call_by Z (below Z (calls Z) n) w f vs' (turned st') ≡ Gives e' → AgreeOn o e e'
         by_host None e1 q1 q1' = go (func_of Z.m f) refl q1
         by_host (Some H) e1 q1 q1' =
             let k = ap (λ z. length z.params) (host_type Z.m f H t e1 is) in
             import_two (bounds Z.m W) f H e1 R holds o vs vs' (lv ∙ sym k) (lv' ∙ sym k) st st' e e' same q1 q1'
 
-comes_stable : (c : Calls) (f : ℕ) (vs' : List Value) (st st' : Store) (e : Effect) (o : Answer) → c f vs' st' ≡ o → NN (CallComes c f vs' st st' e) → CallComes c f vs' st st' e
+comes_stable : (c : Calls) (f : ℕ) (vs' : List Value) (st st' : Store) (e : Effect) (o : Answer) → c f vs' st' ≡ o → NN (CallComes c f vs' st st' e)
+    → CallComes c f vs' st st' e
 comes_stable c f vs' st st' e (Stops w s1) q n = absurd (n (λ a. stops_give a.other (sym q ∙ a.is)))
-comes_stable c f vs' st st' e (Gives e') q n = record { other = e'; is = q; turns = nat_stable _ _ (λ g. n (λ a. g (subst (λ z. z.store.state.turns + st.state.turns ≡ e.store.state.turns + st'.state.turns) (gives_is a.other e' (sym a.is ∙ q)) a.turns))) }
+comes_stable c f vs' st st' e (Gives e') q n = record {
+  other = e';
+  is = q;
+  turns =
+      nat_stable _ _
+      (λ g. n (λ a. g (subst (λ z. z.store.state.turns + st.state.turns ≡ e.store.state.turns + st'.state.turns) (gives_is a.other e' (sym a.is ∙ q)) a.turns)));
+}
 
 -- where an invocation returns, one that begins equal on the row of Done returns too, after as many turns
 pub done_laws : (Z : Fixed) (W : Cover) → FixedOk Z W → (R : Rows) → Holds (bounds Z.m W) R → (n m : ℕ) → m ≤ n → DoneLaw R Z.m (below Z (calls Z) m).call
@@ -335,11 +372,17 @@ done_laws Z W ok R holds = by_number Z (DoneLaw R Z.m) (λ f t is vs vs' lv lv' 
     step : (n : ℕ) → ((m : ℕ) → m ≤ n → DoneLaw R Z.m (below Z (calls Z) m).call) → DoneLaw R Z.m (calls Z (below Z (calls Z) n))
     step n below_it f t is vs vs' lv lv' st st' e same q = by_host (host_of Z.m f) refl q
       where
-        go : (w : Option Func) → func_of Z.m f ≡ w → call_own Z (below Z (calls Z) n) w vs (turned st) ≡ Gives e → CallComes (calls Z (below Z (calls Z) n)) f vs' st st' e
+        go : (w : Option Func) → func_of Z.m f ≡ w → call_own Z (below Z (calls Z) n) w vs (turned st) ≡ Gives e
+            → CallComes (calls Z (below Z (calls Z) n)) f vs' st st' e
         go None e1 q1 = stops_give e q1
-        go (Some F) e1 q1 = let h = has_type Z.m f F t e1 is in comes_stable _ f vs' st st' e _ refl (λ no. nn_tests Z W ok R F Done (λ ts. no (done_step Z W ok R holds n (λ m le. two_laws Z W ok R holds n m le) below_it f F e1 ts vs vs' (lv ∙ sym h.params) (lv' ∙ sym h.params) st st' e same q)))
+        go (Some F) e1 q1 =
+            let h = has_type Z.m f F t e1 is in
+            comes_stable _ f vs' st st' e _ refl
+            (λ no. nn_tests Z W ok R F Done
+            (λ ts. no (done_step Z W ok R holds n (λ m le. two_laws Z W ok R holds n m le) below_it f F e1 ts vs vs' (lv ∙ sym h.params) (lv' ∙ sym h.params) st st' e same q)))
 
-        by_host : (w : Option HostFunc) → host_of Z.m f ≡ w → call_by Z (below Z (calls Z) n) w f vs (turned st) ≡ Gives e → CallComes (calls Z (below Z (calls Z) n)) f vs' st st' e
+        by_host : (w : Option HostFunc) → host_of Z.m f ≡ w → call_by Z (below Z (calls Z) n) w f vs (turned st) ≡ Gives e
+            → CallComes (calls Z (below Z (calls Z) n)) f vs' st st' e
         by_host None e1 q1 = go (func_of Z.m f) refl q1
         by_host (Some H) e1 q1 =
             let k = ap (λ z. length z.params) (host_type Z.m f H t e1 is) in

@@ -65,7 +65,8 @@ pub record Agreed (B : Bounds) (op : Instr) (result : Bool) (needed : Loc → Ty
   pub written : (x : Loc) → needed x → writes B op x ≡ true → EqAt x e.store e'.store
 
 -- an instruction at p, marked or not, with these names before it, where s stands after it
-pub record DoOk (Z : Fixed) (W : Cover) (G : Calls → Type 0) (w : Mode) (K M P : Node → Bool) (N : Node → Loc → Type 0) (m : Bool) (op : Instr) (p : ℕ) (names : List Node) (s : Node) : Type 0 where
+pub record DoOk (Z : Fixed) (W : Cover) (G : Calls → Type 0) (w : Mode) (K M P : Node → Bool) (N : Node → Loc → Type 0) (m : Bool) (op : Instr) (p : ℕ)
+    (names : List Node) (s : Node) : Type 0 where
   pub does : (c : Calls) → G c → (vs : List Value) (st : Store) (e : Effect) → effect Z c op vs st ≡ Gives e → Does (bounds Z.m W) op vs st e
   pub few : leaves (callees Z.m) op ≤ 1
   pub enough : takes (callees Z.m) op ≤ length names
@@ -75,14 +76,19 @@ pub record DoOk (Z : Fixed) (W : Cover) (G : Calls → Type 0) (w : Mode) (K M P
   -- one that isn't kept always goes on
   pub total : strict w ≡ true → K (At p) ≡ false → (c : Calls) → G c → (vs : List Value) (st : Store) → length vs ≡ takes (callees Z.m) op → GoesOn Z c op vs st
   -- a kept instruction goes on from the other store too
-  pub comes : follows w ≡ true → K (At p) ≡ true → (c : Calls) → G c → (vs vs' : List Value) (st st' : Store) (e : Effect) → Matches M (take (takes (callees Z.m) op) names) vs vs' → ((x : Loc) → N (At p) x → EqAt x st st') → effect Z c op vs st ≡ Gives e → Comes Z c op vs' st st' e
+  pub comes : follows w ≡ true → K (At p) ≡ true → (c : Calls) → G c → (vs vs' : List Value) (st st' : Store) (e : Effect)
+      → Matches M (take (takes (callees Z.m) op) names) vs vs' → ((x : Loc) → N (At p) x → EqAt x st st') → effect Z c op vs st ≡ Gives e
+      → Comes Z c op vs' st st' e
   -- and what is needed of it is equal
-  pub agree : K (At p) ≡ true → (c : Calls) → G c → (vs vs' : List Value) (st st' : Store) (e e' : Effect) → Matches M (take (takes (callees Z.m) op) names) vs vs' → ((x : Loc) → N (At p) x → EqAt x st st') → effect Z c op vs st ≡ Gives e → effect Z c op vs' st' ≡ Gives e' → Agreed (bounds Z.m W) op (M (At p)) (N s) e e'
+  pub agree : K (At p) ≡ true → (c : Calls) → G c → (vs vs' : List Value) (st st' : Store) (e e' : Effect)
+      → Matches M (take (takes (callees Z.m) op) names) vs vs' → ((x : Loc) → N (At p) x → EqAt x st st') → effect Z c op vs st ≡ Gives e
+      → effect Z c op vs' st' ≡ Gives e' → Agreed (bounds Z.m W) op (M (At p)) (N s) e e'
   pub keeps : (x : Loc) → N s x → writes (bounds Z.m W) op x ≡ false → N (At p) x
   pub defines : (x : Loc) → N s x → writes (bounds Z.m W) op x ≡ true → K (At p) ≡ true
 
 -- a block, loop or if at p with r results, whose contents begin with f and end at e
-pub record BlockOk (Z : Fixed) (W : Cover) (G : Calls → Type 0) (w : Mode) (K M P : Node → Bool) (N : Node → Loc → Type 0) (m : Bool) (r p e : ℕ) (f s : Node) : Type 0 where
+pub record BlockOk (Z : Fixed) (W : Cover) (G : Calls → Type 0) (w : Mode) (K M P : Node → Bool) (N : Node → Loc → Type 0) (m : Bool) (r p e : ℕ) (f s : Node)
+    : Type 0 where
   pub small : r ≤ 1
   pub marks : m ≡ true → K (At p) ≡ true
   pub shows : K (At p) ≡ true → P (Join p) ≡ true
@@ -92,7 +98,8 @@ pub record BlockOk (Z : Fixed) (W : Cover) (G : Calls → Type 0) (w : Mode) (K 
   pub leaves_it : (x : Loc) → N s x → N (Join p) x
 
 -- a branch at p to label l, with these names below its condition
-pub record BrOk (Z : Fixed) (W : Cover) (G : Calls → Type 0) (w : Mode) (K M P : Node → Bool) (N : Node → Loc → Type 0) (ctx : List Label) (m : Bool) (l p : ℕ) (names : List Node) : Type 0 where
+pub record BrOk (Z : Fixed) (W : Cover) (G : Calls → Type 0) (w : Mode) (K M P : Node → Bool) (N : Node → Loc → Type 0) (ctx : List Label) (m : Bool)
+    (l p : ℕ) (names : List Node) : Type 0 where
   pub enough : carried (arities ctx) l ≤ length names
   pub marks : m ≡ true → K (At p) ≡ true
   pub watched : m ≡ true → AllIn M (carried (arities ctx) l) names
@@ -106,19 +113,32 @@ pub record TestOk (K M : Node → Bool) (p : ℕ) (names : List Node) : Type 0 w
   pub enough : 1 ≤ length names
   pub operand : K (At p) ≡ true → AllIn M 1 names
 
-abbrev pub Closed : (Z : Fixed) (W : Cover) (G : Calls → Type 0) (w : Mode) (K M P : Node → Bool) (N : Node → Loc → Type 0) (ctx : List Label) (o : Bool) (k : Node) (t : ℕ) → Marked → ℕ → List Node → Type 0
+abbrev pub Closed : (Z : Fixed) (W : Cover) (G : Calls → Type 0) (w : Mode) (K M P : Node → Bool) (N : Node → Loc → Type 0) (ctx : List Label) (o : Bool)
+    (k : Node) (t : ℕ)
+    → Marked → ℕ → List Node → Type 0
 Closed Z W G w K M P N ctx o k t End p names = EndOk M P o k t names
 Closed Z W G w K M P N ctx o k t (Do m op rest) p names =
     DoOk Z W G w K M P N m op p names (first (p + 1) rest k) × Closed Z W G w K M P N ctx o k t rest (p + 1) (made (callees Z.m) p op names)
 Closed Z W G w K M P N ctx o k t (Block m r body rest) p names =
-    BlockOk Z W G w K M P N m (arity r) p (p + 1 + size body) (first (p + 1) body (Join p)) (first (p + 1 + size body) rest k) × Closed Z W G w K M P N (block_label p (arity r) (p + 1 + size body) ∷ ctx) (K (At p)) (Join p) (arity r) body (p + 1) [] × Closed Z W G w K M P N ctx o k t rest (p + 1 + size body) (named (arity r) (Join p) names)
+    BlockOk Z W G w K M P N m (arity r) p (p + 1 + size body) (first (p + 1) body (Join p)) (first (p + 1 + size body) rest k) × Closed Z W G w K M P N
+    (block_label p (arity r) (p + 1 + size body) ∷ ctx) (K (At p)) (Join p) (arity r) body (p + 1) [] × Closed Z W G w K M P N ctx o k t rest
+    (p + 1 + size body) (named (arity r) (Join p) names)
 Closed Z W G w K M P N ctx o k t (Loop m r body rest) p names =
-    BlockOk Z W G w K M P N m (arity r) p (p + 1 + size body) (first (p + 1) body (Join p)) (first (p + 1 + size body) rest k) × Closed Z W G w K M P N (loop_label p (p + 1 + size body) ∷ ctx) (K (At p)) (Join p) (arity r) body (p + 1) [] × Closed Z W G w K M P N ctx o k t rest (p + 1 + size body) (named (arity r) (Join p) names)
+    BlockOk Z W G w K M P N m (arity r) p (p + 1 + size body) (first (p + 1) body (Join p)) (first (p + 1 + size body) rest k) × Closed Z W G w K M P N
+    (loop_label p (p + 1 + size body) ∷ ctx) (K (At p)) (Join p) (arity r) body (p + 1) [] × Closed Z W G w K M P N ctx o k t rest (p + 1 + size body)
+    (named (arity r) (Join p) names)
 Closed Z W G w K M P N ctx o k t (If m r x y rest) p names =
-    TestOk K M p names × BlockOk Z W G Cuts K M P N m (arity r) p (p + 1 + size x + size y) (first (p + 1) x (Join p)) (first (p + 1 + size x + size y) rest k) × ((z : Loc) → N (first (p + 1 + size x) y (Join p)) z → N (At p) z) × Closed Z W G w K M P N (block_label p (arity r) (p + 1 + size x + size y) ∷ ctx) (K (At p)) (Join p) (arity r) x (p + 1) [] × Closed Z W G w K M P N (block_label p (arity r) (p + 1 + size x + size y) ∷ ctx) (K (At p)) (Join p) (arity r) y (p + 1 + size x) [] × Closed Z W G w K M P N ctx o k t rest (p + 1 + size x + size y) (named (arity r) (Join p) (drop 1 names))
+    TestOk K M p names × BlockOk Z W G Cuts K M P N m (arity r) p (p + 1 + size x + size y) (first (p + 1) x (Join p))
+    (first (p + 1 + size x + size y) rest k) × ((z : Loc) → N (first (p + 1 + size x) y (Join p)) z → N (At p) z) × Closed Z W G w K M P N
+    (block_label p (arity r) (p + 1 + size x + size y) ∷ ctx) (K (At p)) (Join p) (arity r) x (p + 1) [] × Closed Z W G w K M P N
+    (block_label p (arity r) (p + 1 + size x + size y) ∷ ctx) (K (At p)) (Join p) (arity r) y (p + 1 + size x) [] × Closed Z W G w K M P N ctx o k t rest
+    (p + 1 + size x + size y) (named (arity r) (Join p) (drop 1 names))
 Closed Z W G w K M P N ctx o k t (Br m l rest) p names = BrOk Z W G w K M P N ctx m l p names
 Closed Z W G w K M P N ctx o k t (BrIf m l rest) p names =
-    TestOk K M p names × BrOk Z W G w K M P N ctx m l p (drop 1 names) × ((z : Loc) → N (first (p + 1) rest k) z → N (At p) z) × Closed Z W G w K M P N ctx o k t rest (p + 1) (drop 1 names)
-Closed Z W G w K M P N ctx o k t (BrTable m labels other rest) p names = TestOk K M p names × ((l : ℕ) → OneOf labels other l → BrOk Z W G w K M P N ctx m l p (drop 1 names) × (carried (arities ctx) l ≡ carried (arities ctx) other))
+    TestOk K M p names × BrOk Z W G w K M P N ctx m l p (drop 1 names) × ((z : Loc) → N (first (p + 1) rest k) z → N (At p) z) × Closed Z W G w K M P N ctx o
+    k t rest (p + 1) (drop 1 names)
+Closed Z W G w K M P N ctx o k t (BrTable m labels other rest) p names =
+    TestOk K M p
+    names × ((l : ℕ) → OneOf labels other l → BrOk Z W G w K M P N ctx m l p (drop 1 names) × (carried (arities ctx) l ≡ carried (arities ctx) other))
 Closed Z W G w K M P N ctx o k t (Return m rest) p names = BrOk Z W G w K M P N ctx m (outermost (arities ctx)) p names
 Closed Z W G w K M P N ctx o k t (Unreachable m rest) p names = (m ≡ true → K (At p) ≡ true) × (strict w ≡ true → K (At p) ≡ true)

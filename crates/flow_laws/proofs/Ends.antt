@@ -9,7 +9,7 @@ use Rattle.wasm_types.specs.declared.place.Loc.{Loc}
 use Rattle.flow_domain.specs.Bounds.{Cover, bounds}
 use Rattle.wasm_types.specs.Funcs.{Func, func_of, unwatched}
 use Rattle.wasm_meaning.specs.Invoke.{activation, nested}
-use Rattle.flow_laws.specs.Cutting.{IsReturn}
+use Rattle.flow_laws.proofs.Following.{IsReturn}
 use Rattle.flow_domain.specs.Rows.{Output, Done}
 use Rattle.flow_laws.specs.Calls.{ModuleOk}
 use Rattle.flow_laws.specs.Soundness.{DifferOnly, Omits, AgreeAt}
@@ -32,7 +32,8 @@ RowsEnd =
     (m : Module) (W : Cover) → ModuleOk (bounds m W) → (f : ℕ) (F : Func) → func_of m f ≡ Some F
     → (o : Output) (J : Loc → Bool) → Omits (bounds m W) f o J
     → (args args' : List Value) (s s' : State) → DifferOnly m F J args args' s s'
-    → (depth depth' : ℕ) (results results' : List Value) (final final' : State) → OwnEnds m f args s depth results final → OwnEnds m f args' s' depth' results' final'
+    → (depth depth' : ℕ) (results results' : List Value) (final final' : State) → OwnEnds m f args s depth results final → OwnEnds m f args' s' depth'
+    results' final'
     → AgreeAt o results results' final final'
 
 -- the function returns, where as many turns may nest, after as many turns

@@ -10,7 +10,7 @@ use Rattle.wasm_types.specs.declared.place.Node.TheVariants.{Exit}
 use Rattle.wasm_types.specs.declared.place.Node.{Node}
 use Rattle.flow_domain.specs.Rows.{CallRows, Decider, Item, Led, Makes, Output, Place, argument, carrying, condition, deciding, deciding_again, done_branch, done_trap, done_unreachable, ending, final, func_ends, func_sites, operand, place, reading, result, writer}
 use Rattle.wasm_types.specs.Funcs.{text, Func}
-use Rattle.wasm_types.specs.Sites.{HasJoin, Among, BlockHead, BrHead, BrIfHead, BrTableHead, DoHead, EndAt, Head, IfHead, IsSite, LoopHead, ReturnHead, Site, Sites, UnreachableHead, carry_names, end_names, inner_ends, one_end, sites}
+use Rattle.wasm_types.specs.Sites.{body_ends, body_sites, HasJoin, Among, BlockHead, BrHead, BrIfHead, BrTableHead, DoHead, EndAt, Head, IfHead, IsSite, LoopHead, ReturnHead, Site, Sites, UnreachableHead, carry_names, end_names, inner_ends, one_end, sites}
 use Rattle.wasm_types.specs.Shadow.{looping, around, later, arms, InShadow, if_join}
 use Rattle.wasm_types.specs.Reaching.{Writes, writes_it}
 use Rattle.flow_domain.specs.Bounds.{written_by, writes_at, Bounds}
@@ -63,7 +63,7 @@ some_node : (a n : Node) → Some a ≡ Some n → a ≡ n
 unfolding get_node
 some_node a n e = ap (λ o. get_node o a) e
 
-made_get : (S : Sites) (n k : ℕ) (names : List Node) (d : Node) → AllMade S names → slice_get (take n names) k ≡ Some d → MadeOk S d
+pub made_get : (S : Sites) (n k : ℕ) (names : List Node) (d : Node) → AllMade S names → slice_get (take n names) k ≡ Some d → MadeOk S d
 made_get S zero k names d a e = none_node d e
 made_get S (suc n) k [] d a e = none_node d e
 made_get S (suc n) zero (x ∷ names) d a e = subst (MadeOk S) (some_node x d e) a.0
@@ -112,32 +112,45 @@ record FineCode (cs : Callees) (S : Sites) (ctx : List Label) (k : Node) (code :
   pub last : (ns : List Node) → end_names cs code p names ≡ Some ns → AllMade S ns
   pub inner : EndsFine S (inner_ends cs code p names)
 
-fine_of : (cs : Callees) (S : Sites) (code : Marked) (ctx : List Label) (k : Node) (p : ℕ) (names : List Node) → HasAt S p (sites cs ctx k code p names) → AllMade S names → JoinsOk S ctx → FineCode cs S ctx k code p names
+fine_of : (cs : Callees) (S : Sites) (code : Marked) (ctx : List Label) (k : Node) (p : ℕ) (names : List Node) → HasAt S p (sites cs ctx k code p names)
+    → AllMade S names → JoinsOk S ctx → FineCode cs S ctx k code p names
 fine_of cs S End ctx k p names at a j = record { all = tt; last = λ ns e. subst (AllMade S) (some_names names ns e) a; inner = tt }
 fine_of cs S (Do m op rest) ctx k p names at a j =
-    let r = fine_of cs S rest ctx k (p + 1) (made cs p op names) at.1 (made_named S (leaves cs op) (At p) (drop (takes cs op) names) (_, at.0, tt) (made_drop S (takes cs op) names a)) j in
+    let r =
+    fine_of cs S rest ctx k (p + 1) (made cs p op names) at.1
+    (made_named S (leaves cs op) (At p) (drop (takes cs op) names) (_, at.0, tt) (made_drop S (takes cs op) names a)) j in
     record { all = (a, j, r.all); last = r.last; inner = r.inner }
 fine_of cs S (Block m r body rest) ctx k p names at a j =
     let e = p + 1 + size body in
     let bs = sites cs (block_label p (arity r) e ∷ ctx) (Join p) body (p + 1) [] in
     let rs = sites cs ctx k rest e (named (arity r) (Join p) names) in
     let b = fine_of cs S body (block_label p (arity r) e ∷ ctx) (Join p) (p + 1) [] (has_front S (p + 1) bs rs at.1) tt ((_, at.0, tt), j) in
-    let x = fine_of cs S rest ctx k e (named (arity r) (Join p) names) (has_back S (p + 1) e bs rs (omega (arith, length-sites cs body (block_label p (arity r) e ∷ ctx) (Join p) (p + 1) [])) at.1) (made_named S (arity r) (Join p) names (_, at.0, tt) a) j in
+    let x =
+    fine_of cs S rest ctx k e (named (arity r) (Join p) names)
+    (has_back S (p + 1) e bs rs (omega (arith, length-sites cs body (block_label p (arity r) e ∷ ctx) (Join p) (p + 1) [])) at.1)
+    (made_named S (arity r) (Join p) names (_, at.0, tt) a) j in
     record {
       all = (a, j, fine_both S bs rs b.all x.all);
       last = x.last;
-      inner = ends_both S (one_end (Join p) (arity r) (end_names cs body (p + 1) [])) _ (ends_one S (Join p) (arity r) (end_names cs body (p + 1) []) (_, at.0, tt) b.last) (ends_both S (inner_ends cs body (p + 1) []) _ b.inner x.inner);
+      inner =
+          ends_both S (one_end (Join p) (arity r) (end_names cs body (p + 1) [])) _
+          (ends_one S (Join p) (arity r) (end_names cs body (p + 1) []) (_, at.0, tt) b.last) (ends_both S (inner_ends cs body (p + 1) []) _ b.inner x.inner);
     }
 fine_of cs S (Loop m r body rest) ctx k p names at a j =
     let e = p + 1 + size body in
     let bs = sites cs (loop_label p e ∷ ctx) (Join p) body (p + 1) [] in
     let rs = sites cs ctx k rest e (named (arity r) (Join p) names) in
     let b = fine_of cs S body (loop_label p e ∷ ctx) (Join p) (p + 1) [] (has_front S (p + 1) bs rs at.1) tt ((_, at.0, tt), j) in
-    let x = fine_of cs S rest ctx k e (named (arity r) (Join p) names) (has_back S (p + 1) e bs rs (omega (arith, length-sites cs body (loop_label p e ∷ ctx) (Join p) (p + 1) [])) at.1) (made_named S (arity r) (Join p) names (_, at.0, tt) a) j in
+    let x =
+    fine_of cs S rest ctx k e (named (arity r) (Join p) names)
+    (has_back S (p + 1) e bs rs (omega (arith, length-sites cs body (loop_label p e ∷ ctx) (Join p) (p + 1) [])) at.1)
+    (made_named S (arity r) (Join p) names (_, at.0, tt) a) j in
     record {
       all = (a, j, fine_both S bs rs b.all x.all);
       last = x.last;
-      inner = ends_both S (one_end (Join p) (arity r) (end_names cs body (p + 1) [])) _ (ends_one S (Join p) (arity r) (end_names cs body (p + 1) []) (_, at.0, tt) b.last) (ends_both S (inner_ends cs body (p + 1) []) _ b.inner x.inner);
+      inner =
+          ends_both S (one_end (Join p) (arity r) (end_names cs body (p + 1) [])) _
+          (ends_one S (Join p) (arity r) (end_names cs body (p + 1) []) (_, at.0, tt) b.last) (ends_both S (inner_ends cs body (p + 1) []) _ b.inner x.inner);
     }
 fine_of cs S (If m r x y rest) ctx k p names at a j =
     let f = p + 1 + size x in
@@ -149,11 +162,17 @@ fine_of cs S (If m r x y rest) ctx k p names at a j =
     let back_x = has_back S (p + 1) f xs (ys ++ rs) (omega (arith, length-sites cs x (L ∷ ctx) (Join p) (p + 1) [])) at.1 in
     let b = fine_of cs S x (L ∷ ctx) (Join p) (p + 1) [] (has_front S (p + 1) xs (ys ++ rs) at.1) tt ((_, at.0, tt), j) in
     let c = fine_of cs S y (L ∷ ctx) (Join p) f [] (has_front S f ys rs back_x) tt ((_, at.0, tt), j) in
-    let d = fine_of cs S rest ctx k e (named (arity r) (Join p) (drop 1 names)) (has_back S f e ys rs (omega (arith, length-sites cs y (L ∷ ctx) (Join p) f [])) back_x) (made_named S (arity r) (Join p) (drop 1 names) (_, at.0, tt) (made_drop S 1 names a)) j in
+    let d =
+    fine_of cs S rest ctx k e (named (arity r) (Join p) (drop 1 names))
+    (has_back S f e ys rs (omega (arith, length-sites cs y (L ∷ ctx) (Join p) f [])) back_x)
+    (made_named S (arity r) (Join p) (drop 1 names) (_, at.0, tt) (made_drop S 1 names a)) j in
     record {
       all = (a, j, fine_both S xs (ys ++ rs) b.all (fine_both S ys rs c.all d.all));
       last = d.last;
-      inner = ends_both S (one_end (Join p) (arity r) (end_names cs x (p + 1) [])) _ (ends_one S (Join p) (arity r) (end_names cs x (p + 1) []) (_, at.0, tt) b.last) (ends_both S (one_end (Join p) (arity r) (end_names cs y f [])) _ (ends_one S (Join p) (arity r) (end_names cs y f []) (_, at.0, tt) c.last) (ends_both S (inner_ends cs x (p + 1) []) _ b.inner (ends_both S (inner_ends cs y f []) _ c.inner d.inner)));
+      inner =
+          ends_both S (one_end (Join p) (arity r) (end_names cs x (p + 1) [])) _
+          (ends_one S (Join p) (arity r) (end_names cs x (p + 1) []) (_, at.0, tt) b.last)
+          (ends_both S (one_end (Join p) (arity r) (end_names cs y f [])) _ (ends_one S (Join p) (arity r) (end_names cs y f []) (_, at.0, tt) c.last) (ends_both S (inner_ends cs x (p + 1) []) _ b.inner (ends_both S (inner_ends cs y f []) _ c.inner d.inner)));
     }
 fine_of cs S (Br m l rest) ctx k p names at a j = record { all = (a, j, fine_nones S (size rest)); last = λ ns e. no_names ns e; inner = tt }
 fine_of cs S (BrIf m l rest) ctx k p names at a j =
@@ -177,7 +196,7 @@ some_entry : (a n : Option Site) → Some a ≡ Some n → a ≡ n
 unfolding get_entry
 some_entry a n e = ap (λ o. get_entry o a) e
 
-record FineSite (S : Sites) (s : Site) : Type 0 where
+pub record FineSite (S : Sites) (s : Site) : Type 0 where
   pub names : AllMade S s.names
   pub joins : JoinsOk S s.around
 
@@ -196,7 +215,7 @@ fine_get S (Some x ∷ xs) zero s f e = subst (FineSite S) (some_of x s (some_en
 fine_get S (None ∷ xs) (suc p) s f e = fine_get S xs p s f e
 fine_get S (Some x ∷ xs) (suc p) s f e = fine_get S xs p s f.2 e
 
-record FineEnd (S : Sites) (e : EndAt) : Type 0 where
+pub record FineEnd (S : Sites) (e : EndAt) : Type 0 where
   pub names : AllMade S e.names
   pub owner : MadeOk S e.owner
 
@@ -219,7 +238,7 @@ do_head B UnreachableHead x w = tt
 written_made : (B : Bounds) (S : Sites) (x : Loc) (n : Node) → Writes (written_by B S) x n → MadeOk S n
 written_made B S x n (writes_it w) = (w.0, w.1, do_head B w.0.head x w.2)
 
-carry_made : (S : Sites) (h : Head) (names : List Node) → AllMade S names → AllMade S (carry_names h names)
+pub carry_made : (S : Sites) (h : Head) (names : List Node) → AllMade S names → AllMade S (carry_names h names)
 carry_made S (DoHead op) names a = a
 carry_made S (BlockHead t) names a = a
 carry_made S (LoopHead t) names a = a
@@ -235,7 +254,7 @@ pub record Stands (S : Sites) (p : ℕ) : Type 0 where
   pub site : Site
   pub is : IsSite S p site
 
-shadow_stands : (S : Sites) (p : ℕ) (n : Node) → InShadow S p n → Stands S p
+pub shadow_stands : (S : Sites) (p : ℕ) (n : Node) → InShadow S p n → Stands S p
 shadow_stands S p n (arms kind s is hd i) = record { site = s; is = is }
 shadow_stands S p n (if_join kind s is hd) = record { site = s; is = is }
 shadow_stands S p n (later l s is br i) = record { site = s; is = is }
@@ -247,43 +266,59 @@ ItemOk S (Makes n out) = MadeOk S n
 ItemOk S (Place a x) = Unit {0}
 ItemOk S (Decider p) = Stands S p
 
-module _ (B : Bounds) (R : CallRows) (F : Func) (o : Output) where
-  abbrev S : Sites
-  S = func_sites B F
+-- ---- whole bodies
 
-  abbrev E : List EndAt
-  E = func_ends B F
+module _ (cs : Callees) (t : ℕ) (c : Marked) where
+  abbrev pub S : Sites
+  S = body_sites cs t c
 
-  body_fine : FineCode (callees B.m) S (body_label F.results (size (text F)) ∷ []) Exit (text F) 0 []
-  body_fine = fine_of (callees B.m) S (text F) (body_label F.results (size (text F)) ∷ []) Exit 0 [] (has_all [] S 0 refl) tt (tt, tt)
+  abbrev pub E : List EndAt
+  E = body_ends cs t c
 
-  site_fine : (p : ℕ) (s : Site) → IsSite S p s → FineSite S s
+  body_fine : FineCode cs S (body_label t (size c) ∷ []) Exit c 0 []
+  body_fine = fine_of cs S c (body_label t (size c) ∷ []) Exit 0 [] (has_all [] S 0 refl) tt (tt, tt)
+
+  pub site_fine : (p : ℕ) (s : Site) → IsSite S p s → FineSite S s
   site_fine p s is = fine_get S S p s body_fine.all is
 
-  end_fine : (e : EndAt) → Among E e → FineEnd S e
-  end_fine e a = fine_end S E e (ends_both S (one_end Exit F.results (end_names (callees B.m) (text F) 0 [])) (inner_ends (callees B.m) (text F) 0 []) (ends_one S Exit F.results (end_names (callees B.m) (text F) 0 []) tt body_fine.last) body_fine.inner) a
+  pub end_fine : (e : EndAt) → Among E e → FineEnd S e
+  end_fine e a =
+      fine_end S E e
+      (ends_both S (one_end Exit t (end_names cs c 0 [])) (inner_ends cs c 0 []) (ends_one S Exit t (end_names cs c 0 []) tt body_fine.last) body_fine.inner)
+      a
 
-  pub led_fine : (i : Item) → Led B R S E o i → ItemOk S i
+module _ (B : Bounds) (R : CallRows) (F : Func) (o : Output) where
+  abbrev SF : Sites
+  SF = func_sites B F
+
+  abbrev EF : List EndAt
+  EF = func_ends B F
+
+  pub led_fine : (i : Item) → Led B R SF EF o i → ItemOk SF i
   led_fine i (result e) = tt
   led_fine i (final e) = tt
   led_fine i (done_branch l s e is br lp) = record { site = s; is = is }
   led_fine i (done_trap op s e is hd m) = (s, is, subst IsDo (sym hd) tt)
   led_fine i (done_unreachable s e is hd) = (s, is, subst IsDo (sym hd) tt)
-  led_fine i (writer {x = x} {d = d} a led w path) = written_made B S x (At d) w
-  led_fine i (operand {n = n} p k out s op led is hd c nd g) = made_get S (takes (callees B.m) op) k s.names n (site_fine p s is).names g
+  led_fine i (writer {x = x} {d = d} a led w path) = written_made B SF x (At d) w
+  led_fine i (operand {n = n} p k out s op led is hd c nd g) =
+      made_get SF (takes (callees B.m) op) k s.names n (site_fine (callees B.m) F.results (text F) p s is).names g
   led_fine i (reading out s op led is hd nd) = tt
-  led_fine i (argument {n = n} p k f out s op led is hd c row e) = let i = get_reverse (take (takes (callees B.m) op) s.names) k n e in made_get S (takes (callees B.m) op) i.place s.names n (site_fine p s is).names i.is
+  led_fine i (argument {n = n} p k f out s op led is hd c row e) =
+      let i = get_reverse (take (takes (callees B.m) op) s.names) k n e in
+      made_get SF (takes (callees B.m) op) i.place s.names n (site_fine (callees B.m) F.results (text F) p s is).names i.is
   led_fine i (place f out s op led is hd c row on) = tt
-  led_fine i (carrying {n = n} p l k s led is br g) = made_get S _ k (carry_names s.head s.names) n (carry_made S s.head s.names (site_fine p s is).names) g
-  led_fine i (ending {n = n} e k led a g) = made_get S e.count k e.names n (end_fine e a).names g
-  led_fine i (deciding {p = p} n out led sh) = shadow_stands S p n sh
-  led_fine i (deciding_again {p = p} q led sh) = shadow_stands S p (At q) sh
-  led_fine i (condition {n = n} p k s led is g) = made_get S _ k s.names n (site_fine p s is).names g
+  led_fine i (carrying {n = n} p l k s led is br g) =
+      made_get SF _ k (carry_names s.head s.names) n (carry_made SF s.head s.names (site_fine (callees B.m) F.results (text F) p s is).names) g
+  led_fine i (ending {n = n} e k led a g) = made_get SF e.count k e.names n (end_fine (callees B.m) F.results (text F) e a).names g
+  led_fine i (deciding {p = p} n out led sh) = shadow_stands SF p n sh
+  led_fine i (deciding_again {p = p} q led sh) = shadow_stands SF p (At q) sh
+  led_fine i (condition {n = n} p k s led is g) = made_get SF _ k s.names n (site_fine (callees B.m) F.results (text F) p s is).names g
 
-  no_do : {A : Type 0} (p : ℕ) (s : Site) (h : Head) → IsSite S p s → s.head ≡ h → (IsDo h → ⊥) → MadeOk S (At p) → A
-  no_do p s h is hd f m = absurd (f (subst IsDo (ap (λ z. z.head) (same_site S p m.0 s m.1 is) ∙ hd) m.2))
+  no_do : {A : Type 0} (p : ℕ) (s : Site) (h : Head) → IsSite SF p s → s.head ≡ h → (IsDo h → ⊥) → MadeOk SF (At p) → A
+  no_do p s h is hd f m = absurd (f (subst IsDo (ap (λ z. z.head) (same_site SF p m.0 s m.1 is) ∙ hd) m.2))
 
-  pub apt_of : Apt B R S E o
+  pub apt_of : Apt B R SF EF o
   apt_of = record {
     stands = λ p a. at_case p a;
     stands_end = λ b a. end_case b a;
@@ -292,21 +327,22 @@ module _ (B : Bounds) (R : CallRows) (F : Func) (o : Output) where
     decides_table = λ p other labels s is hd a. table_case p other labels s is hd a;
   }
     where
-      at_case : (p : ℕ) → AtNode B R S E o (At p) → (s : Site) × IsSite S p s
-      at_case p (makes_it out led) = let m : MadeOk S (At p) = led_fine (Makes (At p) out) led in (m.0, m.1)
+      at_case : (p : ℕ) → AtNode B R SF EF o (At p) → (s : Site) × IsSite SF p s
+      at_case p (makes_it out led) = let m : MadeOk SF (At p) = led_fine (Makes (At p) out) led in (m.0, m.1)
       at_case p (decides_it led) = let m = led_fine (Decider p) led in (m.site, m.is)
 
-      end_case : (b : ℕ) → AtNode B R S E o (Join b) → (s : Site) × IsSite S b s × HasJoin s.head
+      end_case : (b : ℕ) → AtNode B R SF EF o (Join b) → (s : Site) × IsSite SF b s × HasJoin s.head
       end_case b (makes_it out led) = led_fine (Makes (Join b) out) led
 
-      if_case : (p : ℕ) (kind : Option ValType) (s : Site) → IsSite S p s → s.head ≡ IfHead kind → AtNode B R S E o (At p) → Led B R S E o (Decider p)
+      if_case : (p : ℕ) (kind : Option ValType) (s : Site) → IsSite SF p s → s.head ≡ IfHead kind → AtNode B R SF EF o (At p) → Led B R SF EF o (Decider p)
       if_case p kind s is hd (makes_it out led) = no_do p s (IfHead kind) is hd (λ z. z) (led_fine (Makes (At p) out) led)
       if_case p kind s is hd (decides_it led) = led
 
-      br_case : (p l : ℕ) (s : Site) → IsSite S p s → s.head ≡ BrIfHead l → AtNode B R S E o (At p) → Led B R S E o (Decider p)
+      br_case : (p l : ℕ) (s : Site) → IsSite SF p s → s.head ≡ BrIfHead l → AtNode B R SF EF o (At p) → Led B R SF EF o (Decider p)
       br_case p l s is hd (makes_it out led) = no_do p s (BrIfHead l) is hd (λ z. z) (led_fine (Makes (At p) out) led)
       br_case p l s is hd (decides_it led) = led
 
-      table_case : (p other : ℕ) (labels : List ℕ) (s : Site) → IsSite S p s → s.head ≡ BrTableHead labels other → AtNode B R S E o (At p) → Led B R S E o (Decider p)
+      table_case : (p other : ℕ) (labels : List ℕ) (s : Site) → IsSite SF p s → s.head ≡ BrTableHead labels other → AtNode B R SF EF o (At p)
+          → Led B R SF EF o (Decider p)
       table_case p other labels s is hd (makes_it out led) = no_do p s (BrTableHead labels other) is hd (λ z. z) (led_fine (Makes (At p) out) led)
       table_case p other labels s is hd (decides_it led) = led

@@ -61,14 +61,17 @@ pub record HostGives (H : HostFunc) (st : Store) (e : Effect) : Type 0 where
   pub turns : e.store.state.turns ≡ st.state.turns + 1
 
 pub host_does : (H : HostFunc) (vs : List Value) (st : Store) (e : Effect) → call_host H vs (turned st) ≡ Gives e → HostGives H st e
-host_does H vs st e q = let d = (instruction_law.host H).does vs (turned st) e q in record { left = d.left; frame = λ x off. from_turned x st e.store (d.frame x off); turns = d.turns }
+host_does H vs st e q =
+    let d = (instruction_law.host H).does vs (turned st) e q in
+    record { left = d.left; frame = λ x off. from_turned x st e.store (d.frame x off); turns = d.turns }
 
 -- results, and what is written, are equal
 record HostAgrees (H : HostFunc) (e e' : Effect) : Type 0 where
   pub results : e'.results ≡ e.results
   pub written : (x : Loc) → host_writes H x ≡ true → EqAt x e.store e'.store
 
-host_same : (H : HostFunc) (vs : List Value) (st st' : Store) (e e' : Effect) → HostReadsSame H st st' → call_host H vs (turned st) ≡ Gives e → call_host H vs (turned st') ≡ Gives e' → HostAgrees H e e'
+host_same : (H : HostFunc) (vs : List Value) (st st' : Store) (e e' : Effect) → HostReadsSame H st st' → call_host H vs (turned st) ≡ Gives e
+    → call_host H vs (turned st') ≡ Gives e' → HostAgrees H e e'
 host_same H vs st st' e e' rd q q' =
     let s = (instruction_law.host H).same vs (turned st) (turned st') e (λ x on. to_turned x st st' (rd x on)) q in
     subst (λ z. HostAgrees H e z) (gives_is s.other e' (sym s.is ∙ q')) (record { results = s.results; written = s.written })
@@ -78,7 +81,8 @@ pub record HostComes (H : HostFunc) (vs : List Value) (st st' : Store) (e : Effe
   pub is : call_host H vs (turned st') ≡ Gives other
   pub turns : other.store.state.turns + st.state.turns ≡ e.store.state.turns + st'.state.turns
 
-host_comes : (H : HostFunc) (vs : List Value) (st st' : Store) (e : Effect) → HostReadsSame H st st' → call_host H vs (turned st) ≡ Gives e → HostComes H vs st st' e
+host_comes : (H : HostFunc) (vs : List Value) (st st' : Store) (e : Effect) → HostReadsSame H st st' → call_host H vs (turned st) ≡ Gives e
+    → HostComes H vs st st' e
 host_comes H vs st st' e rd q =
     let s = (instruction_law.host H).same vs (turned st) (turned st') e (λ x on. to_turned x st st' (rd x on)) q in
     let t = (host_does H vs st e q).turns in
@@ -94,11 +98,14 @@ module _ (B : Bounds) (f : ℕ) (H : HostFunc) (is : host_of B.m f ≡ Some H) w
   reads_same vs vs' st st' same Size on = same Size on
   reads_same vs vs' st st' same Host on = same Host on
 
-  use_same : (vs vs' : List Value) (st st' : Store) → length vs ≡ length H.kind.params → length vs' ≡ length H.kind.params → SameOn (HostUses H) vs vs' st st' → vs' ≡ vs
+  use_same : (vs vs' : List Value) (st st' : Store) → length vs ≡ length H.kind.params → length vs' ≡ length H.kind.params → SameOn (HostUses H) vs vs' st st'
+      → vs' ≡ vs
   use_same vs vs' st st' l l' same = args_same (length H.kind.params) vs vs' l l' (λ k lt. same (Local k) lt)
 
   module _ (R : Rows) (holds : Holds B R) where
-    pub import_two : (o : Output) (vs vs' : List Value) → length vs ≡ length H.kind.params → length vs' ≡ length H.kind.params → (st st' : Store) (e e' : Effect) → SameOn (R f o) vs vs' st st' → call_host H vs (turned st) ≡ Gives e → call_host H vs' (turned st') ≡ Gives e' → AgreeOn o e e'
+    pub import_two : (o : Output) (vs vs' : List Value) → length vs ≡ length H.kind.params → length vs' ≡ length H.kind.params
+        → (st st' : Store) (e e' : Effect) → SameOn (R f o) vs vs' st st' → call_host H vs (turned st) ≡ Gives e → call_host H vs' (turned st') ≡ Gives e'
+        → AgreeOn o e e'
     import_two Ret vs vs' l l' st st' e e' same q q' =
         let s : SameOn (HostUses H) vs vs' st st' = λ x row. same x (holds f Ret x (by_host (H, is, row))) in
         (host_same H vs st st' e e' (reads_same vs vs' st st' s) q (subst (λ z. call_host H z (turned st') ≡ Gives e') (use_same vs vs' st st' l l' s) q')).results
@@ -107,7 +114,8 @@ module _ (B : Bounds) (f : ℕ) (H : HostFunc) (is : host_of B.m f ≡ Some H) w
         go : is_outer y ≡ true → (b : Bool) → host_writes H y ≡ b → EqAt y e.store e'.store
         go outer true on =
             let s : SameOn (HostUses H) vs vs' st st' = λ x row. same x (holds f (Final y) x (by_host (H, is, subst (λ z. HostFinal z H y x) (sym on) row))) in
-            (host_same H vs st st' e e' (reads_same vs vs' st st' s) q (subst (λ z. call_host H z (turned st') ≡ Gives e') (use_same vs vs' st st' l l' s) q')).written y on
+            (host_same H vs st st' e e' (reads_same vs vs' st st' s) q (subst (λ z. call_host H z (turned st') ≡ Gives e') (use_same vs vs' st st' l l' s) q')).written
+            y on
         go outer false off =
             let d = host_does H vs st e q in
             let d' = host_does H vs' st' e' q' in
@@ -115,7 +123,8 @@ module _ (B : Bounds) (f : ℕ) (H : HostFunc) (is : host_of B.m f ≡ Some H) w
             eq-then y e.store st e'.store (eq-sym y st e.store (d.frame y off)) (eq-then y st st' e'.store s (d'.frame y off))
     import_two Done vs vs' l l' st st' e e' same q q' = tt
 
-    pub import_done : (vs vs' : List Value) → length vs ≡ length H.kind.params → length vs' ≡ length H.kind.params → (st st' : Store) (e : Effect) → SameOn (R f Done) vs vs' st st' → call_host H vs (turned st) ≡ Gives e → HostComes H vs' st st' e
+    pub import_done : (vs vs' : List Value) → length vs ≡ length H.kind.params → length vs' ≡ length H.kind.params → (st st' : Store) (e : Effect)
+        → SameOn (R f Done) vs vs' st st' → call_host H vs (turned st) ≡ Gives e → HostComes H vs' st st' e
     import_done vs vs' l l' st st' e same q =
         let s : SameOn (HostUses H) vs vs' st st' = λ x row. same x (holds f Done x (by_host (H, is, row))) in
         host_comes H vs' st st' e (reads_same vs vs' st st' s) (subst (λ z. call_host H z (turned st) ≡ Gives e) (sym (use_same vs vs' st st' l l' s)) q)

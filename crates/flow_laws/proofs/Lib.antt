@@ -22,7 +22,16 @@ pub mod Imports
 pub mod Laws
 pub mod Classical
 pub mod Erase
-pub mod Longer
 pub mod Ends
 pub mod Sound
 pub mod Invocations
+pub mod Live
+pub mod Fewer
+pub mod CutLaw
+pub mod ReachLaw
+pub mod Once
+pub mod CutCalls
+pub mod SliceReturns
+pub mod Heights
+pub mod CallFree
+pub mod Following

@@ -68,7 +68,8 @@ length-marks End = refl
 length-marks (Do m op rest) = omega (arith, length-marks rest)
 length-marks (Block m kind body rest) = omega (arith, length-marks body, length-marks rest, length-append (marks body) (marks rest))
 length-marks (Loop m kind body rest) = omega (arith, length-marks body, length-marks rest, length-append (marks body) (marks rest))
-length-marks (If m kind x y rest) = omega (arith, length-marks x, length-marks y, length-marks rest, length-append (marks x) (marks y ++ marks rest), length-append (marks y) (marks rest))
+length-marks (If m kind x y rest) =
+    omega (arith, length-marks x, length-marks y, length-marks rest, length-append (marks x) (marks y ++ marks rest), length-append (marks y) (marks rest))
 length-marks (Br m l rest) = omega (arith, length-marks rest)
 length-marks (BrIf m l rest) = omega (arith, length-marks rest)
 length-marks (BrTable m labels other rest) = omega (arith, length-marks rest)
@@ -106,14 +107,17 @@ ByKind (Unreachable m rest) = ByKind rest
 -- a sequence without its marks, marked as it was
 pub marked_again : (w : ℕ → Bool) (c : Marked) (p : ℕ) → ByKind c → Pointwise w p (marks c) → marked w p (unmarked c) ≡ c
 marked_again w End p k a = refl
-marked_again w (Do m op rest) p k a = k.0 (w p) (marked w (p + 1) (unmarked rest)) ∙ ap₂ {A = Bool} {B = Marked} (λ x y. Do x op y) (sym a.0) (marked_again w rest (p + 1) k.1 a.1)
+marked_again w (Do m op rest) p k a =
+    k.0 (w p) (marked w (p + 1) (unmarked rest)) ∙ ap₂ {A = Bool} {B = Marked} (λ x y. Do x op y) (sym a.0) (marked_again w rest (p + 1) k.1 a.1)
 marked_again w (Block m kind body rest) p k a =
     let e : p + 1 + count (unmarked body) ≡ p + 1 + size body = omega (arith, count-unmarked body) in
     let s = pointwise-split w (p + 1) (p + 1 + count (unmarked body)) (marks body) (marks rest) (omega (arith, length-marks body, count-unmarked body)) a.1 in
-    ap (λ z. Block z kind (marked w (p + 1) (unmarked body)) (marked w (p + 1 + count (unmarked body)) (unmarked rest))) (sym a.0) ∙ ap₂ {A = Marked} {B = Marked} (λ x y. Block m kind x y) (marked_again w body (p + 1) k.0 s.0) (marked_again w rest _ k.1 s.1)
+    ap (λ z. Block z kind (marked w (p + 1) (unmarked body)) (marked w (p + 1 + count (unmarked body)) (unmarked rest))) (sym a.0)
+    ∙ ap₂ {A = Marked} {B = Marked} (λ x y. Block m kind x y) (marked_again w body (p + 1) k.0 s.0) (marked_again w rest _ k.1 s.1)
 marked_again w (Loop m kind body rest) p k a =
     let s = pointwise-split w (p + 1) (p + 1 + count (unmarked body)) (marks body) (marks rest) (omega (arith, length-marks body, count-unmarked body)) a.1 in
-    ap (λ z. Loop z kind (marked w (p + 1) (unmarked body)) (marked w (p + 1 + count (unmarked body)) (unmarked rest))) (sym a.0) ∙ ap₂ {A = Marked} {B = Marked} (λ x y. Loop m kind x y) (marked_again w body (p + 1) k.0 s.0) (marked_again w rest _ k.1 s.1)
+    ap (λ z. Loop z kind (marked w (p + 1) (unmarked body)) (marked w (p + 1 + count (unmarked body)) (unmarked rest))) (sym a.0)
+    ∙ ap₂ {A = Marked} {B = Marked} (λ x y. Loop m kind x y) (marked_again w body (p + 1) k.0 s.0) (marked_again w rest _ k.1 s.1)
 marked_again w (If m kind x y rest) p k a =
     let q = p + 1 + count (unmarked x) in
     let r = p + 1 + count (unmarked x) + count (unmarked y) in
@@ -179,36 +183,47 @@ trues-both xs ys xs' ys' e f = omega (arith, trues-append xs ys, trues-append xs
 
 module _ (Z : Fixed) (W : Cover) (G : Calls → Type 0) (K M P : Node → Bool) (T : Node → ValType) (N : Node → Loc → Type 0) where
   -- where nothing is kept nothing is marked
-  dark_marks : (c : Marked) (ctx : List Label) (o : Bool) (k : Node) (t p : ℕ) (names : List Node) → Closed Z W G Cuts K M P N ctx o k t c p names → Dark K p (p + size c) → trues (live_marks c) ≡ 0
+  dark_marks : (c : Marked) (ctx : List Label) (o : Bool) (k : Node) (t p : ℕ) (names : List Node) → Closed Z W G Cuts K M P N ctx o k t c p names
+      → Dark K p (p + size c) → trues (live_marks c) ≡ 0
   dark_marks End ctx o k t p names h d = refl
   dark_marks (Do m op rest) ctx o k t p names h d =
-      sym (one_more-off m 0 _ (not_marked K p m h.0.marks (d p (omega arith) (omega arith)).0) (sym (dark_marks rest ctx o k t (p + 1) (made (callees Z.m) p op names) h.1 (dark-sub K p _ (p + 1) _ d (omega arith) (omega arith)))))
+      sym
+      (one_more-off m 0 _ (not_marked K p m h.0.marks (d p (omega arith) (omega arith)).0)
+      (sym (dark_marks rest ctx o k t (p + 1) (made (callees Z.m) p op names) h.1 (dark-sub K p _ (p + 1) _ d (omega arith) (omega arith)))))
   dark_marks (Block m kind body rest) ctx o k t p names h d =
       let e = p + 1 + size body in
       let a = dark_marks body _ (K (At p)) (Join p) (arity kind) (p + 1) [] h.1 (dark-sub K p _ (p + 1) _ d (omega arith) (omega arith)) in
       let b = dark_marks rest ctx o k t e (named (arity kind) (Join p) names) h.2 (dark-sub K p _ e _ d (omega arith) (omega arith)) in
-      sym (one_more-off m 0 _ (not_marked K p m h.0.marks (d p (omega arith) (omega arith)).0) (omega (arith, trues-append (live_marks body) (live_marks rest))))
+      sym
+      (one_more-off m 0 _ (not_marked K p m h.0.marks (d p (omega arith) (omega arith)).0) (omega (arith, trues-append (live_marks body) (live_marks rest))))
   dark_marks (Loop m kind body rest) ctx o k t p names h d =
       let e = p + 1 + size body in
       let a = dark_marks body _ (K (At p)) (Join p) (arity kind) (p + 1) [] h.1 (dark-sub K p _ (p + 1) _ d (omega arith) (omega arith)) in
       let b = dark_marks rest ctx o k t e (named (arity kind) (Join p) names) h.2 (dark-sub K p _ e _ d (omega arith) (omega arith)) in
-      sym (one_more-off m 0 _ (not_marked K p m h.0.marks (d p (omega arith) (omega arith)).0) (omega (arith, trues-append (live_marks body) (live_marks rest))))
+      sym
+      (one_more-off m 0 _ (not_marked K p m h.0.marks (d p (omega arith) (omega arith)).0) (omega (arith, trues-append (live_marks body) (live_marks rest))))
   dark_marks (If m kind x y rest) ctx o k t p names h d =
       let f = p + 1 + size x in
       let e = p + 1 + size x + size y in
       let a = dark_marks x _ (K (At p)) (Join p) (arity kind) (p + 1) [] h.3 (dark-sub K p _ (p + 1) _ d (omega arith) (omega arith)) in
       let b = dark_marks y _ (K (At p)) (Join p) (arity kind) f [] h.4 (dark-sub K p _ f _ d (omega arith) (omega arith)) in
       let c = dark_marks rest ctx o k t e (named (arity kind) (Join p) (drop 1 names)) h.5 (dark-sub K p _ e _ d (omega arith) (omega arith)) in
-      sym (one_more-off m 0 _ (not_marked K p m h.1.marks (d p (omega arith) (omega arith)).0) (omega (arith, trues-append (live_marks x) (live_marks y ++ live_marks rest), trues-append (live_marks y) (live_marks rest))))
+      sym
+      (one_more-off m 0 _ (not_marked K p m h.1.marks (d p (omega arith) (omega arith)).0)
+      (omega (arith, trues-append (live_marks x) (live_marks y ++ live_marks rest), trues-append (live_marks y) (live_marks rest))))
   dark_marks (Br m l rest) ctx o k t p names h d = sym (one_more-off m 0 0 (not_marked K p m h.marks (d p (omega arith) (omega arith)).0) refl)
   dark_marks (BrIf m l rest) ctx o k t p names h d =
-      sym (one_more-off m 0 _ (not_marked K p m h.1.marks (d p (omega arith) (omega arith)).0) (sym (dark_marks rest ctx o k t (p + 1) (drop 1 names) h.3 (dark-sub K p _ (p + 1) _ d (omega arith) (omega arith)))))
-  dark_marks (BrTable m labels other rest) ctx o k t p names h d = sym (one_more-off m 0 0 (not_marked K p m (h.1 other (last_label labels other)).0.marks (d p (omega arith) (omega arith)).0) refl)
+      sym
+      (one_more-off m 0 _ (not_marked K p m h.1.marks (d p (omega arith) (omega arith)).0)
+      (sym (dark_marks rest ctx o k t (p + 1) (drop 1 names) h.3 (dark-sub K p _ (p + 1) _ d (omega arith) (omega arith)))))
+  dark_marks (BrTable m labels other rest) ctx o k t p names h d =
+      sym (one_more-off m 0 0 (not_marked K p m (h.1 other (last_label labels other)).0.marks (d p (omega arith) (omega arith)).0) refl)
   dark_marks (Return m rest) ctx o k t p names h d = sym (one_more-off m 0 0 (not_marked K p m h.marks (d p (omega arith) (omega arith)).0) refl)
   dark_marks (Unreachable m rest) ctx o k t p names h d = sym (one_more-off m 0 0 (not_marked K p m h.0 (d p (omega arith) (omega arith)).0) refl)
 
   -- the cut has the marks of the live positions
-  pub cut_marks : (c : Marked) (ctx : List Label) (o : Bool) (k : Node) (t : Option ValType) (p : ℕ) (names : List Node) → Closed Z W G Cuts K M P N ctx o k (arity t) c p names → trues (marks (cut (callees Z.m) K P T t c p names)) ≡ trues (live_marks c)
+  pub cut_marks : (c : Marked) (ctx : List Label) (o : Bool) (k : Node) (t : Option ValType) (p : ℕ) (names : List Node)
+      → Closed Z W G Cuts K M P N ctx o k (arity t) c p names → trues (marks (cut (callees Z.m) K P T t c p names)) ≡ trues (live_marks c)
   cut_marks End ctx o k t p names h = refl
   cut_marks (Do m op rest) ctx o k t p names h =
       let a = cut_marks rest ctx o k t (p + 1) (made (callees Z.m) p op names) h.1 in
@@ -218,18 +233,24 @@ module _ (Z : Fixed) (W : Cover) (G : Calls → Type 0) (K M P : Node → Bool) 
       let e = p + 1 + size body in
       let a = cut_marks body _ (K (At p)) (Join p) kind (p + 1) [] h.1 in
       let b = cut_marks rest ctx o k t e (named (arity kind) (Join p) names) h.2 in
-      by_pick (K (At p)) _ _ _ (λ on. one_more-on m _ _ (trues-both (marks (cut (callees Z.m) K P T kind body (p + 1) [])) (marks (cut (callees Z.m) K P T t rest e (named (arity kind) (Join p) names))) (live_marks body) (live_marks rest) a b))
+      by_pick (K (At p)) _ _ _
+      (λ on. one_more-on m _ _
+      (trues-both (marks (cut (callees Z.m) K P T kind body (p + 1) [])) (marks (cut (callees Z.m) K P T t rest e (named (arity kind) (Join p) names))) (live_marks body) (live_marks rest) a b))
       (λ off.
       let d = dark_marks body _ (K (At p)) (Join p) (arity kind) (p + 1) [] h.1 (h.0.dark refl off) in
-      trues-filler P kind (Join p) _ ∙ one_more-off m _ _ (not_marked K p m h.0.marks off) (omega (arith, trues-append (live_marks body) (live_marks rest), b, d)))
+      trues-filler P kind (Join p) _
+      ∙ one_more-off m _ _ (not_marked K p m h.0.marks off) (omega (arith, trues-append (live_marks body) (live_marks rest), b, d)))
   cut_marks (Loop m kind body rest) ctx o k t p names h =
       let e = p + 1 + size body in
       let a = cut_marks body _ (K (At p)) (Join p) kind (p + 1) [] h.1 in
       let b = cut_marks rest ctx o k t e (named (arity kind) (Join p) names) h.2 in
-      by_pick (K (At p)) _ _ _ (λ on. one_more-on m _ _ (trues-both (marks (cut (callees Z.m) K P T kind body (p + 1) [])) (marks (cut (callees Z.m) K P T t rest e (named (arity kind) (Join p) names))) (live_marks body) (live_marks rest) a b))
+      by_pick (K (At p)) _ _ _
+      (λ on. one_more-on m _ _
+      (trues-both (marks (cut (callees Z.m) K P T kind body (p + 1) [])) (marks (cut (callees Z.m) K P T t rest e (named (arity kind) (Join p) names))) (live_marks body) (live_marks rest) a b))
       (λ off.
       let d = dark_marks body _ (K (At p)) (Join p) (arity kind) (p + 1) [] h.1 (h.0.dark refl off) in
-      trues-filler P kind (Join p) _ ∙ one_more-off m _ _ (not_marked K p m h.0.marks off) (omega (arith, trues-append (live_marks body) (live_marks rest), b, d)))
+      trues-filler P kind (Join p) _
+      ∙ one_more-off m _ _ (not_marked K p m h.0.marks off) (omega (arith, trues-append (live_marks body) (live_marks rest), b, d)))
   cut_marks (If m kind x y rest) ctx o k t p names h =
       let f = p + 1 + size x in
       let e = p + 1 + size x + size y in
@@ -239,16 +260,26 @@ module _ (Z : Fixed) (W : Cover) (G : Calls → Type 0) (K M P : Node → Bool) 
       let cx = cut (callees Z.m) K P T kind x (p + 1) [] in
       let cy = cut (callees Z.m) K P T kind y f [] in
       let cr = cut (callees Z.m) K P T t rest e (named (arity kind) (Join p) (drop 1 names)) in
-      by_pick (K (At p)) _ _ _ (λ on. one_more-on m _ _ (trues-both (marks cx) (marks cy ++ marks cr) (live_marks x) (live_marks y ++ live_marks rest) a (trues-both (marks cy) (marks cr) (live_marks y) (live_marks rest) b c)))
+      by_pick (K (At p)) _ _ _
+      (λ on. one_more-on m _ _
+      (trues-both (marks cx) (marks cy ++ marks cr) (live_marks x) (live_marks y ++ live_marks rest) a (trues-both (marks cy) (marks cr) (live_marks y) (live_marks rest) b c)))
       (λ off.
       let dark = h.1.dark refl off in
       let d = dark_marks x _ (K (At p)) (Join p) (arity kind) (p + 1) [] h.3 (dark-sub K (p + 1) e (p + 1) f dark (omega arith) (omega arith)) in
       let d2 = dark_marks y _ (K (At p)) (Join p) (arity kind) f [] h.4 (dark-sub K (p + 1) e f e dark (omega arith) (omega arith)) in
-      trues-drops (shown P (take 1 names)) _ ∙ trues-filler P kind (Join p) _ ∙ one_more-off m _ _ (not_marked K p m h.1.marks off) (omega (arith, trues-append (live_marks x) (live_marks y ++ live_marks rest), trues-append (live_marks y) (live_marks rest), c, d, d2)))
-  cut_marks (Br m l rest) ctx o k t p names h = by_pick (K (At p)) _ _ _ (λ on. refl) (λ off. trues-gone P t names ∙ one_more-off m 0 0 (not_marked K p m h.marks off) refl)
+      trues-drops (shown P (take 1 names)) _ ∙ trues-filler P kind (Join p) _
+      ∙ one_more-off m _ _ (not_marked K p m h.1.marks off)
+      (omega (arith, trues-append (live_marks x) (live_marks y ++ live_marks rest), trues-append (live_marks y) (live_marks rest), c, d, d2)))
+  cut_marks (Br m l rest) ctx o k t p names h =
+      by_pick (K (At p)) _ _ _ (λ on. refl) (λ off. trues-gone P t names ∙ one_more-off m 0 0 (not_marked K p m h.marks off) refl)
   cut_marks (BrIf m l rest) ctx o k t p names h =
       let a = cut_marks rest ctx o k t (p + 1) (drop 1 names) h.3 in
-      by_pick (K (At p)) _ _ _ (λ on. one_more-on m _ _ a) (λ off. trues-drops (shown P (take 1 names)) _ ∙ one_more-off m _ _ (not_marked K p m h.1.marks off) a)
-  cut_marks (BrTable m labels other rest) ctx o k t p names h = by_pick (K (At p)) _ _ _ (λ on. refl) (λ off. trues-gone P t names ∙ one_more-off m 0 0 (not_marked K p m (h.1 other (last_label labels other)).0.marks off) refl)
-  cut_marks (Return m rest) ctx o k t p names h = by_pick (K (At p)) _ _ _ (λ on. refl) (λ off. trues-gone P t names ∙ one_more-off m 0 0 (not_marked K p m h.marks off) refl)
-  cut_marks (Unreachable m rest) ctx o k t p names h = by_pick (K (At p)) _ _ _ (λ on. refl) (λ off. trues-gone P t names ∙ one_more-off m 0 0 (not_marked K p m h.0 off) refl)
+      by_pick (K (At p)) _ _ _ (λ on. one_more-on m _ _ a)
+      (λ off. trues-drops (shown P (take 1 names)) _ ∙ one_more-off m _ _ (not_marked K p m h.1.marks off) a)
+  cut_marks (BrTable m labels other rest) ctx o k t p names h =
+      by_pick (K (At p)) _ _ _ (λ on. refl)
+      (λ off. trues-gone P t names ∙ one_more-off m 0 0 (not_marked K p m (h.1 other (last_label labels other)).0.marks off) refl)
+  cut_marks (Return m rest) ctx o k t p names h =
+      by_pick (K (At p)) _ _ _ (λ on. refl) (λ off. trues-gone P t names ∙ one_more-off m 0 0 (not_marked K p m h.marks off) refl)
+  cut_marks (Unreachable m rest) ctx o k t p names h =
+      by_pick (K (At p)) _ _ _ (λ on. refl) (λ off. trues-gone P t names ∙ one_more-off m 0 0 (not_marked K p m h.0 off) refl)

@@ -33,7 +33,9 @@ match_reverse M [] [] (v' ∷ vs') m = absurd m
 match_reverse M [] (v ∷ vs) vs' m = absurd m
 match_reverse M (d ∷ names) [] vs' m = absurd m
 match_reverse M (d ∷ names) (v ∷ vs) [] m = absurd m
-match_reverse M (d ∷ names) (v ∷ vs) (v' ∷ vs') m = rw (reverse-first d names, reverse-first v vs, reverse-first v' vs') (match_both M (reverse names) (d ∷ []) (reverse vs) (reverse vs') (v ∷ []) (v' ∷ []) (match_reverse M names vs vs' m.1) (m.0, tt))
+match_reverse M (d ∷ names) (v ∷ vs) (v' ∷ vs') m =
+    rw (reverse-first d names, reverse-first v vs, reverse-first v' vs')
+    (match_both M (reverse names) (d ∷ []) (reverse vs) (reverse vs') (v ∷ []) (v' ∷ []) (match_reverse M names vs vs' m.1) (m.0, tt))
 
 none_of : {A : Type 0} (d : Node) → None ≡ Some d → A
 none_of d e = absurd (grind arith)

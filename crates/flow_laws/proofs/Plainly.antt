@@ -68,8 +68,10 @@ leafy_code (i ∷ is) = leafy_onto i (code_of is) (leafy_code is)
 pub code_back : (c : Code) → Leafy c → code_of (list_of c) ≡ c
 code_back done l = refl
 code_back (one i rest) l = onto-one i (code_of (list_of rest)) l.0 ∙ ap (one i) (code_back rest l.1)
-code_back (block k inner rest) l = onto-block k (list_of inner) (code_of (list_of rest)) ∙ ap₂ {A = Code} {B = Code} (λ a b. block k a b) (code_back inner l.0) (code_back rest l.1)
-code_back (repeat k inner rest) l = onto-loop k (list_of inner) (code_of (list_of rest)) ∙ ap₂ {A = Code} {B = Code} (λ a b. repeat k a b) (code_back inner l.0) (code_back rest l.1)
+code_back (block k inner rest) l =
+    onto-block k (list_of inner) (code_of (list_of rest)) ∙ ap₂ {A = Code} {B = Code} (λ a b. block k a b) (code_back inner l.0) (code_back rest l.1)
+code_back (repeat k inner rest) l =
+    onto-loop k (list_of inner) (code_of (list_of rest)) ∙ ap₂ {A = Code} {B = Code} (λ a b. repeat k a b) (code_back inner l.0) (code_back rest l.1)
 code_back (branch k x y rest) l =
     onto-if k (list_of x) (list_of y) (code_of (list_of rest)) ∙ ap (λ z. branch k z (code_of (list_of y)) (code_of (list_of rest))) (code_back x l.0)
     ∙ ap₂ {A = Code} {B = Code} (λ a b. branch k x a b) (code_back y l.1) (code_back rest l.2)
@@ -146,7 +148,8 @@ plainly_marked w done p l = tt
 plainly_marked w (one op rest) p l = plainly_leaf (w p) op _ l.0 (plainly_marked w rest (p + 1) l.1)
 plainly_marked w (block kind body rest) p l = (plainly_marked w body (p + 1) l.0, plainly_marked w rest (p + 1 + count body) l.1)
 plainly_marked w (repeat kind body rest) p l = (plainly_marked w body (p + 1) l.0, plainly_marked w rest (p + 1 + count body) l.1)
-plainly_marked w (branch kind x y rest) p l = (plainly_marked w x (p + 1) l.0, plainly_marked w y (p + 1 + count x) l.1, plainly_marked w rest (p + 1 + count x + count y) l.2)
+plainly_marked w (branch kind x y rest) p l =
+    (plainly_marked w x (p + 1) l.0, plainly_marked w y (p + 1 + count x) l.1, plainly_marked w rest (p + 1 + count x + count y) l.2)
 
 -- ---- of a cut
 
@@ -184,21 +187,30 @@ module _ (cs : Callees) (K P : Node → Bool) (T : Node → ValType) where
   plainly_cut (Block k r body rest) t p names o =
       let c = cut cs K P T t rest (p + 1 + size body) (named (arity r) (Join p) names) in
       let x = plainly_cut rest t (p + 1 + size body) (named (arity r) (Join p) names) o.1 in
-      plainly_pick (K (At p)) (Block k r (cut cs K P T r body (p + 1) []) c) (filler P r (Join p) c) (plainly_cut body r (p + 1) [] o.0, x) (plainly_filler P r (Join p) c x)
+      plainly_pick (K (At p)) (Block k r (cut cs K P T r body (p + 1) []) c) (filler P r (Join p) c) (plainly_cut body r (p + 1) [] o.0, x)
+      (plainly_filler P r (Join p) c x)
   plainly_cut (Loop k r body rest) t p names o =
       let c = cut cs K P T t rest (p + 1 + size body) (named (arity r) (Join p) names) in
       let x = plainly_cut rest t (p + 1 + size body) (named (arity r) (Join p) names) o.1 in
-      plainly_pick (K (At p)) (Loop k r (cut cs K P T r body (p + 1) []) c) (filler P r (Join p) c) (plainly_cut body r (p + 1) [] o.0, x) (plainly_filler P r (Join p) c x)
+      plainly_pick (K (At p)) (Loop k r (cut cs K P T r body (p + 1) []) c) (filler P r (Join p) c) (plainly_cut body r (p + 1) [] o.0, x)
+      (plainly_filler P r (Join p) c x)
   plainly_cut (If k r x y rest) t p names o =
       let c = cut cs K P T t rest (p + 1 + size x + size y) (named (arity r) (Join p) (drop 1 names)) in
       let z = plainly_cut rest t (p + 1 + size x + size y) (named (arity r) (Join p) (drop 1 names)) o.2 in
       let n = shown P (take 1 names) in
-      plainly_pick (K (At p)) (If k r (cut cs K P T r x (p + 1) []) (cut cs K P T r y (p + 1 + size x) []) c) (drops n (filler P r (Join p) c)) (plainly_cut x r (p + 1) [] o.0, plainly_cut y r (p + 1 + size x) [] o.1, z) (plainly_drops n (filler P r (Join p) c) (plainly_filler P r (Join p) c z))
-  plainly_cut (Br k l rest) t p names o = plainly_pick (K (At p)) (Br k l End) (drops (shown P names) (zeros t End)) tt (plainly_drops (shown P names) (zeros t End) (plainly_zeros t End tt))
+      plainly_pick (K (At p)) (If k r (cut cs K P T r x (p + 1) []) (cut cs K P T r y (p + 1 + size x) []) c) (drops n (filler P r (Join p) c))
+      (plainly_cut x r (p + 1) [] o.0, plainly_cut y r (p + 1 + size x) [] o.1, z) (plainly_drops n (filler P r (Join p) c) (plainly_filler P r (Join p) c z))
+  plainly_cut (Br k l rest) t p names o =
+      plainly_pick (K (At p)) (Br k l End) (drops (shown P names) (zeros t End)) tt (plainly_drops (shown P names) (zeros t End) (plainly_zeros t End tt))
   plainly_cut (BrIf k l rest) t p names o =
       let c = cut cs K P T t rest (p + 1) (drop 1 names) in
       let r = plainly_cut rest t (p + 1) (drop 1 names) o in
       plainly_pick (K (At p)) (BrIf k l c) (drops (shown P (take 1 names)) c) r (plainly_drops (shown P (take 1 names)) c r)
-  plainly_cut (BrTable k labels other rest) t p names o = plainly_pick (K (At p)) (BrTable k labels other End) (drops (shown P names) (zeros t End)) tt (plainly_drops (shown P names) (zeros t End) (plainly_zeros t End tt))
-  plainly_cut (Return k rest) t p names o = plainly_pick (K (At p)) (Return k End) (drops (shown P names) (zeros t End)) tt (plainly_drops (shown P names) (zeros t End) (plainly_zeros t End tt))
-  plainly_cut (Unreachable k rest) t p names o = plainly_pick (K (At p)) (Unreachable k End) (drops (shown P names) (zeros t End)) tt (plainly_drops (shown P names) (zeros t End) (plainly_zeros t End tt))
+  plainly_cut (BrTable k labels other rest) t p names o =
+      plainly_pick (K (At p)) (BrTable k labels other End) (drops (shown P names) (zeros t End)) tt
+      (plainly_drops (shown P names) (zeros t End) (plainly_zeros t End tt))
+  plainly_cut (Return k rest) t p names o =
+      plainly_pick (K (At p)) (Return k End) (drops (shown P names) (zeros t End)) tt (plainly_drops (shown P names) (zeros t End) (plainly_zeros t End tt))
+  plainly_cut (Unreachable k rest) t p names o =
+      plainly_pick (K (At p)) (Unreachable k End) (drops (shown P names) (zeros t End)) tt
+      (plainly_drops (shown P names) (zeros t End) (plainly_zeros t End tt))

@@ -10,7 +10,8 @@ use Rattle.wasm_types.specs.Sites.{Sites, EndAt}
 use Rattle.flow_laws.proofs.Callees.{FixedOk}
 use Rattle.flow_laws.proofs.Classical.{NN, agree_stable, done_laws, nat_stable, nn_tests, two_laws}
 use Rattle.flow_laws.proofs.Laws.{Returned, done_from, input_or, one_from, ran}
-use Rattle.flow_laws.proofs.Longer.{longer, Lives}
+use Rattle.wasm_meaning.proofs.Longer.{longer_budget}
+use Rattle.wasm_meaning.specs.Longer.{Lives}
 use Rattle.flow_laws.proofs.Starts.{own_no_host, entry_past, entry_same, some_func}
 use Rattle.wasm_types.specs.Labels.{first}
 use Rattle.flow_laws.specs.Soundness.{AgreeAt, DifferOnly, Omits, entry}
@@ -25,7 +26,7 @@ use Rattle.wasm_meaning.specs.Effects.{Answer, Effect, Fixed, Gives, Stops, fixe
 use Rattle.wasm_types.specs.Actions.{Callee, Own, Through}
 use Rattle.wasm_meaning.specs.Fits.{Fits}
 use Rattle.wasm_types.specs.Hosts.{MayStand, HostFunc}
-use Rattle.flow_laws.specs.Cutting.{IsReturn}
+use Rattle.flow_laws.proofs.Following.{IsReturn}
 use Rattle.wasm_meaning.specs.Invoke.{calls, entered, returned}
 use Rattle.flow_domain.specs.Bounds.{Bounds, Cover, bounds}
 use Rattle.wasm_meaning.specs.Equality.{EqAt}
@@ -64,7 +65,10 @@ led-more B R Q S E o i w (deciding_again q led sh) = deciding_again q (led-more 
 led-more B R Q S E o i w (condition p k s led is g) = condition p k s (led-more B R Q S E o _ w led) is g
 
 ledto-more : (B : Bounds) (R Q : Rows) (f : ℕ) (o : Output) (x : Loc) → Within R Q → LedTo R B f o x → LedTo Q B f o x
-ledto-more B R Q f o x w (by_code F is needed input) = by_code F is (record { at = needed.at; enters = needed.enters; led = led-more B (RowOf B.m R) (RowOf B.m Q) (func_sites B F) (func_ends B F) o _ (callees-more B.m R Q w) needed.led }) input
+ledto-more B R Q f o x w (by_code F is needed input) =
+    by_code F is
+    (record { at = needed.at; enters = needed.enters; led = led-more B (RowOf B.m R) (RowOf B.m Q) (func_sites B F) (func_ends B F) o _ (callees-more B.m R Q w) needed.led })
+    input
 ledto-more B R Q f o x w (by_host row) = by_host row
 
 round-more : (B : Bounds) (n : ℕ) → Within (Dep B n) (Dep B (suc n))
@@ -73,7 +77,8 @@ round-more B (suc n) f o x h = ledto-more B _ _ f o x (round-more B n) h
 
 rounds-more : (B : Bounds) (k n : ℕ) → Within (Dep B n) (Dep B (k + n))
 rounds-more B zero n g o j h = let e : n ≡ 0 + n = omega arith in subst (λ z. Dep B z g o j) e h
-rounds-more B (suc k) n g o j h = let e : suc (k + n) ≡ suc k + n = omega arith in subst (λ z. Dep B z g o j) e (round-more B (k + n) g o j (rounds-more B k n g o j h))
+rounds-more B (suc k) n g o j h =
+    let e : suc (k + n) ≡ suc k + n = omega arith in subst (λ z. Dep B z g o j) e (round-more B (k + n) g o j (rounds-more B k n g o j h))
 
 up-to : (B : Bounds) (m n : ℕ) → n ≤ m → Within (Dep B n) (Dep B m)
 up-to B m n le g o j h = let a = split m n le in subst (λ z. Dep B z g o j) a.1 (rounds-more B a.0 n g o j h)
@@ -158,9 +163,13 @@ abbrev first_store : Func → List Value → State → Store
 first_store F args s = (entered F args s).store
 
 -- two starts that differ in what no round leads the output to are equal where something is needed
-needed_same : (Z : Fixed) (m : Module) (W : Cover) → FixedOk Z W → (f : ℕ) (F : Func) (o : Output) (J : Loc → Bool) (args args' : List Value) (s s' : State) → func_of m f ≡ Some F → Omits (bounds m W) f o J → DifferOnly m F J args args' s s' → (x : Loc) → Needed (bounds m W) (RowOf m (AnyRound (bounds m W))) (func_sites (bounds m W) F) (func_ends (bounds m W) F) o (first 0 (text F) Exit) x → EqAt x (first_store F args s) (first_store F args' s')
+needed_same : (Z : Fixed) (m : Module) (W : Cover) → FixedOk Z W → (f : ℕ) (F : Func) (o : Output) (J : Loc → Bool) (args args' : List Value) (s s' : State)
+    → func_of m f ≡ Some F → Omits (bounds m W) f o J → DifferOnly m F J args args' s s' → (x : Loc)
+    → Needed (bounds m W) (RowOf m (AnyRound (bounds m W))) (func_sites (bounds m W) F) (func_ends (bounds m W) F) o (first 0 (text F) Exit) x
+    → EqAt x (first_store F args s) (first_store F args' s')
 needed_same Z m W fok f F o J args args' s s' is omitted d x nd =
-    input_or Z W fok F.params x (λ i. entry_same F x args args' s s' (d.long' ∙ sym d.long) (by (J x) refl (any_round_holds (bounds m W) f o x (by_code F is nd i))))
+    input_or Z W fok F.params x
+    (λ i. entry_same F x args args' s s' (d.long' ∙ sym d.long) (by (J x) refl (any_round_holds (bounds m W) f o x (by_code F is nd i))))
     (λ k e le. subst (λ z. EqAt z (first_store F args s) (first_store F args' s')) (sym e) (entry_past F k args args' s s' (d.long' ∙ sym d.long) (let l = d.long in omega arith)))
   where
     by : (b : Bool) → J x ≡ b → AnyRound (bounds m W) f o x → EqAt x (entry args s) (entry args' s')
@@ -171,7 +180,8 @@ needed_same Z m W fok f F o J args args' s s' is omitted d x nd =
 abbrev end_of : Run → Store → Effect
 end_of r st = record { results = r.there.stack; store = record st { state = r.there.store.state } }
 
-gives_end : (o : Outcome) (h : Here) (st : Store) → IsReturn o → returned o st h ≡ Gives (record { results = h.stack; store = record st { state = h.store.state } })
+gives_end : (o : Outcome) (h : Here) (st : Store) → IsReturn o
+    → returned o st h ≡ Gives (record { results = h.stack; store = record st { state = h.store.state } })
 gives_end Normal h st r = refl
 gives_end (Branch zero) h st r = refl
 gives_end (Branch (suc l)) h st r = absurd r
@@ -194,16 +204,23 @@ record EndOf (m : Module) (F : Func) (args : List Value) (s : State) (depth : �
   pub gives : (own_run m depth unwatched F args s).there.stack ≡ results
   pub ends : (own_run m depth unwatched F args s).there.store.state ≡ last
 
-of_ends : (m : Module) (f : ℕ) (F : Func) (args : List Value) (s : State) (d : ℕ) (results : List Value) (last : State) → func_of m f ≡ Some F → OwnEnds m f args s d results last → EndOf m F args s d results last
-of_ends m f F args s d results last is e = subst (λ z. EndOf m z args s d results last) (same_func m f F e.func is e.is) (record { returns = e.returns; gives = e.gives; ends = e.ends })
+of_ends : (m : Module) (f : ℕ) (F : Func) (args : List Value) (s : State) (d : ℕ) (results : List Value) (last : State) → func_of m f ≡ Some F
+    → OwnEnds m f args s d results last → EndOf m F args s d results last
+of_ends m f F args s d results last is e =
+    subst (λ z. EndOf m z args s d results last) (same_func m f F e.func is e.is) (record { returns = e.returns; gives = e.gives; ends = e.ends })
 
 -- with more turns the end is the same
-more_end : (m : Module) (F : Func) (args : List Value) (s : State) (d k : ℕ) → d ≤ k → IsReturn (own_run m d unwatched F args s).outcome → own_run m k unwatched F args s ≡ own_run m d unwatched F args s
-more_end m F args s d k le r = longer (fixed m s) d k le (F.results ∷ []) (text F) (entered F args s) (return_lives (own_run m d unwatched F args s).outcome r)
+more_end : (m : Module) (F : Func) (args : List Value) (s : State) (d k : ℕ) → d ≤ k → IsReturn (own_run m d unwatched F args s).outcome
+    → own_run m k unwatched F args s ≡ own_run m d unwatched F args s
+more_end m F args s d k le r =
+    longer_budget.run_stays (fixed m s) d k le (F.results ∷ []) (text F) (entered F args s) (return_lives (own_run m d unwatched F args s).outcome r)
 
-agree_at : (o : Output) (r r' : Run) (s s' : State) (results results' : List Value) (last last' : State) → r.there.stack ≡ results → r.there.store.state ≡ last → r'.there.stack ≡ results' → r'.there.store.state ≡ last' → AgreeOn o (end_of r (entry [] s)) (end_of r' (entry [] s')) → AgreeAt o results results' last last'
+agree_at : (o : Output) (r r' : Run) (s s' : State) (results results' : List Value) (last last' : State) → r.there.stack ≡ results
+    → r.there.store.state ≡ last → r'.there.stack ≡ results' → r'.there.store.state ≡ last' → AgreeOn o (end_of r (entry [] s)) (end_of r' (entry [] s'))
+    → AgreeAt o results results' last last'
 agree_at Ret r r' s s' results results' last last' g e g' e' a = sym g' ∙ a ∙ g
-agree_at (Final x) r r' s s' results results' last last' g e g' e' a = λ on. subst (λ z. EqAt x (entry [] z) (entry [] last')) e (subst (λ z. EqAt x (entry [] r.there.store.state) (entry [] z)) e' (a on))
+agree_at (Final x) r r' s s' results results' last last' g e g' e' a =
+    λ on. subst (λ z. EqAt x (entry [] z) (entry [] last')) e (subst (λ z. EqAt x (entry [] r.there.store.state) (entry [] z)) e' (a on))
 agree_at Done r r' s s' results results' last last' g e g' e' a = tt
 
 pub rows_end : RowsEnd
@@ -217,9 +234,15 @@ rows_end m W ok f F is o J omitted args args' s s' d n n' results results' last 
     let r = own_run m n unwatched F args s in
     let r' = own_run m n' unwatched F args' s' in
     let up : ran Z W fok k F (first_store F args s) ≡ r = more_end m F args s n k (omega arith) a.returns in
-    let up' : ran Z W fok k F (first_store F args' s') ≡ r' = ap (λ z. run z (below z (calls z) k) (F.results ∷ []) (text F) (entered F args' s')) (sym (same_fixed m s s' d.table d.cap)) ∙ more_end m F args' s' n' k (omega arith) a'.returns in
-    let q : returned (ran Z W fok k F (first_store F args s)).outcome (entry [] s) (ran Z W fok k F (first_store F args s)).there ≡ Gives (end_of r (entry [] s)) = ap (λ z. returned z.outcome (entry [] s) z.there) up ∙ gives_end r.outcome r.there (entry [] s) a.returns in
-    let q' : returned (ran Z W fok k F (first_store F args' s')).outcome (entry [] s') (ran Z W fok k F (first_store F args' s')).there ≡ Gives (end_of r' (entry [] s')) = ap (λ z. returned z.outcome (entry [] s') z.there) up' ∙ gives_end r'.outcome r'.there (entry [] s') a'.returns in
+    let up' : ran Z W fok k F (first_store F args' s') ≡ r' =
+    ap (λ z. run z (below z (calls z) k) (F.results ∷ []) (text F) (entered F args' s')) (sym (same_fixed m s s' d.table d.cap))
+    ∙ more_end m F args' s' n' k (omega arith) a'.returns in
+    let q : returned (ran Z W fok k F (first_store F args s)).outcome (entry [] s) (ran Z W fok k F (first_store F args s)).there ≡ Gives
+    (end_of r (entry [] s)) =
+    ap (λ z. returned z.outcome (entry [] s) z.there) up ∙ gives_end r.outcome r.there (entry [] s) a.returns in
+    let q' : returned (ran Z W fok k F (first_store F args' s')).outcome (entry [] s') (ran Z W fok k F (first_store F args' s')).there ≡ Gives
+    (end_of r' (entry [] s')) =
+    ap (λ z. returned z.outcome (entry [] s') z.there) up' ∙ gives_end r'.outcome r'.there (entry [] s') a'.returns in
     agree_at o r r' s s' results results' last last' a.gives a.ends a'.gives a'.ends
     (agree_stable o (end_of r (entry [] s)) (end_of r' (entry [] s')) (λ no. nn_tests Z W fok R F o (λ t. no (one_from Z W fok R (any_round_holds (bounds m W)) k (λ j le. two_laws Z W fok R (any_round_holds (bounds m W)) k j le) f F is o t (first_store F args s) (first_store F args' s') (λ x nd. needed_same Z m W fok f F o J args args' s s' is omitted d x nd) (entry [] s) (entry [] s') (end_of r (entry [] s)) (end_of r' (entry [] s')) q q'))))
 
@@ -228,8 +251,10 @@ record EndsBy (m : Module) (F : Func) (args : List Value) (s : State) (depth : �
   pub returns : IsReturn (own_run m depth unwatched F args s).outcome
   pub turns : (own_run m depth unwatched F args s).there.store.state.turns + before.turns ≡ after.turns + s.turns
 
-ends_stable : (m : Module) (F : Func) (args : List Value) (s : State) (d : ℕ) (before after : State) → NN (EndsBy m F args s d before after) → EndsBy m F args s d before after
-ends_stable m F args s d before after n = record { returns = go (own_run m d unwatched F args s).outcome (λ f. n (λ e. f e.returns)); turns = nat_stable _ _ (λ f. n (λ e. f e.turns)) }
+ends_stable : (m : Module) (F : Func) (args : List Value) (s : State) (d : ℕ) (before after : State) → NN (EndsBy m F args s d before after)
+    → EndsBy m F args s d before after
+ends_stable m F args s d before after n =
+    record { returns = go (own_run m d unwatched F args s).outcome (λ f. n (λ e. f e.returns)); turns = nat_stable _ _ (λ f. n (λ e. f e.turns)) }
   where
     go : (o : Outcome) → NN (IsReturn o) → IsReturn o
     go Normal n = tt
@@ -267,9 +292,12 @@ done_end m W ok f F is J omitted args args' s s' d n results last en =
     same_r : ran Z W fok n F (first_store F args' s') ≡ r'
     same_r = ap (λ z. run z (below z (calls z) n) (F.results ∷ []) (text F) (entered F args' s')) (sym (same_fixed m s s' d.table d.cap))
 
-    from_returned : Returned Z W fok (ran Z W fok n F (first_store F args' s')).outcome (ran Z W fok n F (first_store F args' s')).there (entry [] s) (entry [] s') (end_of r (entry [] s)) → EndsBy m F args' s' n s last
+    from_returned : Returned Z W fok (ran Z W fok n F (first_store F args' s')).outcome (ran Z W fok n F (first_store F args' s')).there (entry [] s)
+        (entry [] s') (end_of r (entry [] s))
+        → EndsBy m F args' s' n s last
     from_returned w =
-        let x : returned r'.outcome (entry [] s') r'.there ≡ Gives w.other = subst (λ z. returned z.outcome (entry [] s') z.there ≡ Gives w.other) same_r w.is in
+        let x : returned r'.outcome (entry [] s') r'.there ≡ Gives w.other =
+        subst (λ z. returned z.outcome (entry [] s') z.there ≡ Gives w.other) same_r w.is in
         let ret = gives_return r'.outcome r'.there (entry [] s') w.other x in
         let y : end_of r' (entry [] s') ≡ w.other = gives_is _ w.other (sym (gives_end r'.outcome r'.there (entry [] s') ret) ∙ x) in
         let t : r'.there.store.state.turns ≡ w.other.store.state.turns = ap (λ z. z.store.state.turns) y in
@@ -278,4 +306,7 @@ done_end m W ok f F is J omitted args args' s s' d n results last en =
         record { returns = ret; turns = omega arith }
 
     nn : NN (EndsBy m F args' s' n s last)
-    nn bad = nn_tests Z W fok R F Done (λ t. bad (from_returned (done_from Z W fok R (any_round_holds (bounds m W)) n (λ j le. two_laws Z W fok R (any_round_holds (bounds m W)) n j le) (λ j le. done_laws Z W fok R (any_round_holds (bounds m W)) n j le) f F is t (first_store F args s) (first_store F args' s') (λ x nd. needed_same Z m W fok f F Done J args args' s s' is omitted d x nd) (entry [] s) (entry [] s') (omega arith) (end_of r (entry [] s)) (gives_end r.outcome r.there (entry [] s) a.returns))))
+    nn bad =
+        nn_tests Z W fok R F Done
+        (λ t. bad
+        (from_returned (done_from Z W fok R (any_round_holds (bounds m W)) n (λ j le. two_laws Z W fok R (any_round_holds (bounds m W)) n j le) (λ j le. done_laws Z W fok R (any_round_holds (bounds m W)) n j le) f F is t (first_store F args s) (first_store F args' s') (λ x nd. needed_same Z m W fok f F Done J args args' s s' is omitted d x nd) (entry [] s) (entry [] s') (omega arith) (end_of r (entry [] s)) (gives_end r.outcome r.there (entry [] s) a.returns))))

@@ -30,15 +30,18 @@ arg_behind (x ∷ xs) [] zs k l e = absurd (omega arith)
 arg_behind (x ∷ xs) (y ∷ ys) zs zero l e = e
 arg_behind (x ∷ xs) (y ∷ ys) zs (suc k) l e = arg_behind xs ys zs k (omega arith) e
 
-pub start_same : (F : Func) (x : Loc) (vs vs' : List Value) (st st' : Store) → length vs' ≡ length vs → EqAt x (begun vs st) (begun vs' st') → EqAt x (start F vs st) (start F vs' st')
-start_same F (Local k) vs vs' st st' l e = arg_behind (reverse vs) (reverse vs') (map zero_value F.locals) k (length-reverse vs' ∙ l ∙ sym (length-reverse vs)) e
+pub start_same : (F : Func) (x : Loc) (vs vs' : List Value) (st st' : Store) → length vs' ≡ length vs → EqAt x (begun vs st) (begun vs' st')
+    → EqAt x (start F vs st) (start F vs' st')
+start_same F (Local k) vs vs' st st' l e =
+    arg_behind (reverse vs) (reverse vs') (map zero_value F.locals) k (length-reverse vs' ∙ l ∙ sym (length-reverse vs)) e
 start_same F (Global g) vs vs' st st' l e = e
 start_same F Mem vs vs' st st' l e = e
 start_same F Size vs vs' st st' l e = e
 start_same F Host vs vs' st st' l e = e
 
 -- past the arguments both starts are equal
-pub start_past : (F : Func) (k : ℕ) (vs vs' : List Value) (st st' : Store) → length vs' ≡ length vs → length vs ≤ k → EqAt (Local k) (start F vs st) (start F vs' st')
+pub start_past : (F : Func) (k : ℕ) (vs vs' : List Value) (st st' : Store) → length vs' ≡ length vs → length vs ≤ k
+    → EqAt (Local k) (start F vs st) (start F vs' st')
 start_past F k vs vs' st st' l le = start_same F (Local k) vs vs' st st' l (arg_past_all vs' k (omega arith) ∙ sym (arg_past_all vs k le))
 
 -- the type of an own function has its numbers
@@ -77,14 +80,16 @@ typed m f F is = go (type_of_func m f) refl is
     go (Some t) e q = record { type_is = t; is = e }
 
 -- the same where the arguments come the first one first, as in an invocation
-pub entry_same : (F : Func) (x : Loc) (args args' : List Value) (s s' : State) → length args' ≡ length args → EqAt x (entry args s) (entry args' s') → EqAt x (entered F args s).store (entered F args' s').store
+pub entry_same : (F : Func) (x : Loc) (args args' : List Value) (s s' : State) → length args' ≡ length args → EqAt x (entry args s) (entry args' s')
+    → EqAt x (entered F args s).store (entered F args' s').store
 entry_same F (Local k) args args' s s' l e = arg_behind args args' (map zero_value F.locals) k l e
 entry_same F (Global g) args args' s s' l e = e
 entry_same F Mem args args' s s' l e = e
 entry_same F Size args args' s s' l e = e
 entry_same F Host args args' s s' l e = e
 
-pub entry_past : (F : Func) (k : ℕ) (args args' : List Value) (s s' : State) → length args' ≡ length args → length args ≤ k → EqAt (Local k) (entered F args s).store (entered F args' s').store
+pub entry_past : (F : Func) (k : ℕ) (args args' : List Value) (s s' : State) → length args' ≡ length args → length args ≤ k
+    → EqAt (Local k) (entered F args s).store (entered F args' s').store
 entry_past F k args args' s s' l le = entry_same F (Local k) args args' s s' l (arg_past args' k (omega arith) ∙ sym (arg_past args k le))
 
 -- ---- imports
@@ -99,7 +104,11 @@ own_no_host m f F is = go (nat_lt f (import_count m)) refl
   where
     go : (q : Bool) → nat_lt f (import_count m) ≡ q → (if q then host_from m f (type_of_func m f) else None) ≡ None
     go false e = refl
-    go true e = no_func F (sym (ap (λ z. func_from (type_of_func m f) (if z || not (nat_lt f (length (func_types m))) then None else slice_get m.bodies (f - import_count m))) e ∙ none_from (type_of_func m f)) ∙ is)
+    go true e =
+        no_func F
+        (sym
+        (ap (λ z. func_from (type_of_func m f) (if z || not (nat_lt f (length (func_types m))) then None else slice_get m.bodies (f - import_count m))) e
+        ∙ none_from (type_of_func m f)) ∙ is)
 
 -- what a call of an own function answers, in the caller's store
 abbrev pub answer_of : Fixed → Below → Option Func → List Value → Store → Answer
@@ -116,8 +125,10 @@ own_turned : (Z : Fixed) (b : Below) (o : Option Func) (vs : List Value) (s : St
 own_turned Z b None vs s = refl
 own_turned Z b (Some f) vs s = let r = activation Z b unwatched f (reverse vs) (turned s).state in returned_turned r.outcome s r.there
 
-pub own_calls : (Z : Fixed) (b : Below) (f : ℕ) (F : Func) → func_of Z.m f ≡ Some F → (vs : List Value) (st : Store) → calls Z b f vs st ≡ answer_of Z b (Some F) vs st
-own_calls Z b f F is vs st = ap (λ z. call_by Z b z f vs (turned st)) (own_no_host Z.m f F is) ∙ ap (λ z. call_own Z b z vs (turned st)) is ∙ own_turned Z b (Some F) vs st
+pub own_calls : (Z : Fixed) (b : Below) (f : ℕ) (F : Func) → func_of Z.m f ≡ Some F → (vs : List Value) (st : Store)
+    → calls Z b f vs st ≡ answer_of Z b (Some F) vs st
+own_calls Z b f F is vs st =
+    ap (λ z. call_by Z b z f vs (turned st)) (own_no_host Z.m f F is) ∙ ap (λ z. call_own Z b z vs (turned st)) is ∙ own_turned Z b (Some F) vs st
 
 get_kind : Option HostFunc → FuncType → FuncType
 get_kind None d = d

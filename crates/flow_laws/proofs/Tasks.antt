@@ -60,7 +60,8 @@ info_of cs op g c = subst (InfoOf cs) c.is (info_by cs (form_of op))
 
 -- ---- no calls
 
-plain_case : {A : Type 0} (cs : Callees) (op : Instr) → called_of (task_of cs op) ≡ None → (task_of cs op ≡ NoTask → A) → ((a : Action) → task_of cs op ≡ Acts a → A) → A
+plain_case : {A : Type 0} (cs : Callees) (op : Instr) → called_of (task_of cs op) ≡ None → (task_of cs op ≡ NoTask → A)
+    → ((a : Action) → task_of cs op ≡ Acts a → A) → A
 plain_case {A = A} cs op n f h = go (task_of cs op) refl
   where
     go : (t : Task) → task_of cs op ≡ t → A
@@ -68,7 +69,8 @@ plain_case {A = A} cs op n f h = go (task_of cs op) refl
     go (Acts a) e = h a e
     go (Asks g k r) e = some_callee g (sym (ap called_of e) ∙ n)
 
-no_effect : {A : Type 0} (Z : Fixed) (c : Calls) (op : Instr) (vs : List Value) (st : Store) (e : Effect) → task_of (callees Z.m) op ≡ NoTask → effect Z c op vs st ≡ Gives e → A
+no_effect : {A : Type 0} (Z : Fixed) (c : Calls) (op : Instr) (vs : List Value) (st : Store) (e : Effect) → task_of (callees Z.m) op ≡ NoTask
+    → effect Z c op vs st ≡ Gives e → A
 no_effect Z c op vs st e is q = stops_give e (subst (λ z. do_task Z c z vs st ≡ Gives e) is q)
 
 -- the law of an action is that of an instruction that does it, whatever calls do
@@ -90,7 +92,8 @@ module _ (Z : Fixed) (W : Cover) (c : Calls) (op : Instr) (a : Action) (is : tas
     turns = omega arith;
   }
 
-  act_same : (vs : List Value) (st st' : Store) (e e' : Effect) → ReadsSame (bounds Z.m W) op st st' → effect Z c op vs st ≡ Gives e → effect Z c op vs st' ≡ Gives e' → SameEnd (bounds Z.m W) op e e'
+  act_same : (vs : List Value) (st st' : Store) (e e' : Effect) → ReadsSame (bounds Z.m W) op st st' → effect Z c op vs st ≡ Gives e
+      → effect Z c op vs st' ≡ Gives e' → SameEnd (bounds Z.m W) op e e'
   act_same vs st st' e e' rd q q' = let s = law.same vs st st' e e' (λ x on. rd x (ap (λ z. reads_of z x) is ∙ on)) (gives vs st e q) (gives vs st' e' q') in record {
     results = s.results;
     written = λ x on. s.written x (ap (λ z. writes_of W z x) (sym is) ∙ on);
@@ -101,9 +104,13 @@ module _ (Z : Fixed) (W : Cover) (c : Calls) (op : Instr) (a : Action) (is : tas
       let g = law.total vs st (ap may_trap_of (sym is) ∙ m) (l ∙ ap takes_of is) in
       record { effect_is = g.effect; is = back vs st g.effect g.is; turns = (law.does vs st g.effect g.is).turns }
 
-  act_comes : (vs vs' : List Value) (st st' : Store) (e : Effect) → length vs' ≡ length vs → ((k : ℕ) → traps_by (bounds Z.m W) op k → arg vs' k ≡ arg vs k) → ChecksSame (bounds Z.m W) op st st' → effect Z c op vs st ≡ Gives e → Comes Z c op vs' st st' e
+  act_comes : (vs vs' : List Value) (st st' : Store) (e : Effect) → length vs' ≡ length vs → ((k : ℕ) → traps_by (bounds Z.m W) op k → arg vs' k ≡ arg vs k)
+      → ChecksSame (bounds Z.m W) op st st' → effect Z c op vs st ≡ Gives e → Comes Z c op vs' st st' e
   act_comes vs vs' st st' e l tr ch q =
-      let g = law.comes vs vs' st st' e (record { long = l; operands = λ k t. tr k (subst (λ z. traps_of z k) (sym is) t); checks = λ x on. ch x (ap (λ z. checks_of W z x) is ∙ on) }) (gives vs st e q) in
+      let g =
+      law.comes vs vs' st st' e
+      (record { long = l; operands = λ k t. tr k (subst (λ z. traps_of z k) (sym is) t); checks = λ x on. ch x (ap (λ z. checks_of W z x) is ∙ on) })
+      (gives vs st e q) in
       let t = (law.does vs st e (gives vs st e q)).turns in
       let t' = (law.does vs' st' g.effect g.is).turns in
       record { other = g.effect; is = back vs' st' g.effect g.is; turns = omega arith }
@@ -115,11 +122,15 @@ module _ (Z : Fixed) (W : Cover) (c : Calls) (op : Instr) where
   pub plain_does : (vs : List Value) (st : Store) (e : Effect) → called B op ≡ None → effect Z c op vs st ≡ Gives e → Does B op vs st e
   plain_does vs st e n q = plain_case (callees Z.m) op n (λ is. no_effect Z c op vs st e is q) (λ a is. act_does Z W c op a is vs st e q)
 
-  pub plain_same : (vs : List Value) (st st' : Store) (e e' : Effect) → called B op ≡ None → ReadsSame B op st st' → effect Z c op vs st ≡ Gives e → effect Z c op vs st' ≡ Gives e' → SameEnd B op e e'
-  plain_same vs st st' e e' n rd q q' = plain_case (callees Z.m) op n (λ is. no_effect Z c op vs st e is q) (λ a is. act_same Z W c op a is vs st st' e e' rd q q')
+  pub plain_same : (vs : List Value) (st st' : Store) (e e' : Effect) → called B op ≡ None → ReadsSame B op st st' → effect Z c op vs st ≡ Gives e
+      → effect Z c op vs st' ≡ Gives e' → SameEnd B op e e'
+  plain_same vs st st' e e' n rd q q' =
+      plain_case (callees Z.m) op n (λ is. no_effect Z c op vs st e is q) (λ a is. act_same Z W c op a is vs st st' e e' rd q q')
 
-  pub plain_comes : (vs vs' : List Value) (st st' : Store) (e : Effect) → called B op ≡ None → length vs' ≡ length vs → ((k : ℕ) → traps_by B op k → arg vs' k ≡ arg vs k) → ChecksSame B op st st' → effect Z c op vs st ≡ Gives e → Comes Z c op vs' st st' e
-  plain_comes vs vs' st st' e n l tr ch q = plain_case (callees Z.m) op n (λ is. no_effect Z c op vs st e is q) (λ a is. act_comes Z W c op a is vs vs' st st' e l tr ch q)
+  pub plain_comes : (vs vs' : List Value) (st st' : Store) (e : Effect) → called B op ≡ None → length vs' ≡ length vs
+      → ((k : ℕ) → traps_by B op k → arg vs' k ≡ arg vs k) → ChecksSame B op st st' → effect Z c op vs st ≡ Gives e → Comes Z c op vs' st st' e
+  plain_comes vs vs' st st' e n l tr ch q =
+      plain_case (callees Z.m) op n (λ is. no_effect Z c op vs st e is q) (λ a is. act_comes Z W c op a is vs vs' st st' e l tr ch q)
 
   pub plain_total : (vs : List Value) (st : Store) → may_trap B op ≡ false → length vs ≡ takes (callees Z.m) op → GoesOn Z c op vs st
   plain_total vs st m l = go (task_of (callees Z.m) op) refl
@@ -166,4 +177,7 @@ types_same (t ∷ ts) (u ∷ us) e =
     ap₂ {A = ValType} {B = List ValType} (λ x y. x ∷ y) (type_same t u (number_same (type_byte t) (type_byte u) b.0)) (types_same ts us b.1)
 
 pub same_kind : (t u : FuncType) → same_type t u ≡ true → t ≡ u
-same_kind t u e = let b = both_on (same_types t.params u.params) (same_types t.results u.results) e in ap₂ {A = List ValType} {B = List ValType} (λ x y. record { params = x; results = y }) (types_same t.params u.params b.0) (types_same t.results u.results b.1)
+same_kind t u e =
+    let b = both_on (same_types t.params u.params) (same_types t.results u.results) e in
+    ap₂ {A = List ValType} {B = List ValType} (λ x y. record { params = x; results = y }) (types_same t.params u.params b.0)
+    (types_same t.results u.results b.1)

@@ -1,31 +1,19 @@
 -- What is kept for a watched instruction, where a kept call uses only what its needed outputs and its completion depend on.
-use Rattle.std.specs.Prelude.{◌≡◌, ℕ, zero, ◌≤◌, ◌<◌, ◌⊎◌, List, [], ◌∷◌, Bool, true, Option, Some, None, take, length, reverse, slice_get}
-use Rattle.wasm_types.specs.declared.module.ValType.{ValType}
-use Rattle.wasm_types.specs.declared.module.Module.{Module}
+use Rattle.std.specs.Prelude.{◌≡◌, ℕ, ◌<◌, ◌⊎◌, List, Bool, true, Some, None, take, reverse, slice_get}
 use Rattle.wasm_types.specs.declared.instr.Instr.{Instr}
-use Rattle.wasm_types.specs.Marked.{Marked}
-use Rattle.wasm_meaning.specs.State.{State}
-use Rattle.wasm_meaning.specs.Fits.{Fits}
 use Rattle.wasm_types.specs.declared.place.Loc.{Loc}
 use Rattle.wasm_types.specs.declared.place.Loc.TheVariants.{Local}
-use Rattle.flow_domain.specs.Bounds.{written_by, Cover, Bounds, bounds, reads, checks, writes, called, writes_at}
+use Rattle.flow_domain.specs.Bounds.{written_by, Bounds, reads, checks, writes, called, writes_at}
 use Rattle.wasm_types.specs.Locations.{is_outer}
-use Rattle.wasm_meaning.specs.Effects.{fixed}
-use Rattle.wasm_types.specs.Actions.{Callees, callees, Callee, takes}
-use Rattle.wasm_meaning.specs.Run.{Here, Run, Outcome, Normal, Branch, run}
-use Rattle.wasm_types.specs.Labels.{arity, carried, arities, join_of}
-use Rattle.wasm_meaning.specs.Invoke.{nested}
+use Rattle.wasm_types.specs.Actions.{callees, Callee, takes}
+use Rattle.wasm_types.specs.Labels.{carried, arities, join_of}
 use Rattle.wasm_types.specs.declared.place.Node.{Node}
-use Rattle.wasm_types.specs.Nodes.{At, Join, AllIn}
-use Rattle.wasm_types.specs.declared.place.Node.TheVariants.{Exit}
-use Rattle.wasm_types.specs.Sites.{Head, DoHead, IfHead, BrIfHead, BrTableHead, Site, Sites, IsSite, Branches, EndAt, body_sites, body_ends, all_operands, carry_names, Leads, Among}
+use Rattle.wasm_types.specs.Nodes.{At, Join}
+use Rattle.wasm_types.specs.Sites.{Head, DoHead, IfHead, BrIfHead, BrTableHead, Site, Sites, IsSite, Branches, EndAt, all_operands, carry_names, Leads, Among}
 use Rattle.wasm_types.specs.Reaching.{Writes}
 use Rattle.wasm_types.specs.Shadow.{InShadow}
-use Rattle.flow_domain.specs.Heights.{Shaped}
 use Rattle.flow_domain.specs.Kept.{NamesIn}
-use Rattle.flow_domain.specs.Rows.{Ret, Final, Done, CallRows, RowOf, AnyRound}
-use Rattle.flow_laws.specs.Calls.{ModuleOk}
-use Rattle.flow_domain.specs.Cut.{cut_body}
+use Rattle.flow_domain.specs.Rows.{Ret, Final, Done, CallRows}
 
 -- it has a condition or an index
 abbrev pub IsTest : Head → Type 0
@@ -36,62 +24,35 @@ IsTest _ = ⊥
 
 -- a location is needed at a point: it leads, with no write of it, to a kept use
 pub data NeedK (B : Bounds) (R : CallRows) (S : Sites) (K M : Node → Bool) : Node → Loc → Type 0 where
-  used : {p : ℕ} {x : Loc} (s : Site) (op : Instr) → IsSite S p s → s.head ≡ DoHead op → called B op ≡ None → K (At p) ≡ true → (reads B op x ≡ true) ⊎ (checks B op x ≡ true) → NeedK B R S K M (At p) x
-  used_done : {p : ℕ} {x : Loc} (g : Callee) (s : Site) (op : Instr) → IsSite S p s → s.head ≡ DoHead op → called B op ≡ Some g → K (At p) ≡ true → R g Done x → is_outer x ≡ true → NeedK B R S K M (At p) x
-  used_result : {p : ℕ} {x : Loc} (g : Callee) (s : Site) (op : Instr) → IsSite S p s → s.head ≡ DoHead op → called B op ≡ Some g → M (At p) ≡ true → R g Ret x → is_outer x ≡ true → NeedK B R S K M (At p) x
-  used_final : {p : ℕ} {x : Loc} (g : Callee) (y : Loc) (s : Site) (op : Instr) → IsSite S p s → s.head ≡ DoHead op → called B op ≡ Some g → writes B op y ≡ true → NeedK B R S K M s.next y → R g (Final y) x → is_outer x ≡ true → NeedK B R S K M (At p) x
+  used : {p : ℕ} {x : Loc} (s : Site) (op : Instr) → IsSite S p s → s.head ≡ DoHead op → called B op ≡ None → K (At p) ≡ true
+      → (reads B op x ≡ true) ⊎ (checks B op x ≡ true) → NeedK B R S K M (At p) x
+  used_done : {p : ℕ} {x : Loc} (g : Callee) (s : Site) (op : Instr) → IsSite S p s → s.head ≡ DoHead op → called B op ≡ Some g → K (At p) ≡ true → R g Done x
+      → is_outer x ≡ true → NeedK B R S K M (At p) x
+  used_result : {p : ℕ} {x : Loc} (g : Callee) (s : Site) (op : Instr) → IsSite S p s → s.head ≡ DoHead op → called B op ≡ Some g → M (At p) ≡ true
+      → R g Ret x → is_outer x ≡ true → NeedK B R S K M (At p) x
+  used_final : {p : ℕ} {x : Loc} (g : Callee) (y : Loc) (s : Site) (op : Instr) → IsSite S p s → s.head ≡ DoHead op → called B op ≡ Some g
+      → writes B op y ≡ true → NeedK B R S K M s.next y → R g (Final y) x → is_outer x ≡ true → NeedK B R S K M (At p) x
   later : {a : Node} {x : Loc} (b : Node) → Leads S a b → (Writes (written_by B S) x a → ⊥) → NeedK B R S K M b x → NeedK B R S K M a x
 
 -- closed under the rules: K is kept, M is kept as a maker
 pub record IsKept (B : Bounds) (R : CallRows) (S : Sites) (ends : List EndAt) (K M : Node → Bool) : Type 0 where
   pub makers : (d : Node) → M d ≡ true → K d ≡ true
   pub watched : (p : ℕ) (s : Site) → IsSite S p s → s.mark ≡ true → (M (At p) ≡ true) × NamesIn M (all_operands (callees B.m) s.around s.head) s.names
-  pub operands : (p : ℕ) (s : Site) (op : Instr) → IsSite S p s → s.head ≡ DoHead op → called B op ≡ None → K (At p) ≡ true → (M (At p) ≡ true) × NamesIn M (takes (callees B.m) op) s.names
+  pub operands : (p : ℕ) (s : Site) (op : Instr) → IsSite S p s → s.head ≡ DoHead op → called B op ≡ None → K (At p) ≡ true
+      → (M (At p) ≡ true) × NamesIn M (takes (callees B.m) op) s.names
   pub tests : (p : ℕ) (s : Site) → IsSite S p s → K (At p) ≡ true → IsTest s.head → NamesIn M 1 s.names
-  pub args_done : (p k : ℕ) (g : Callee) (d : Node) (s : Site) (op : Instr) → IsSite S p s → s.head ≡ DoHead op → called B op ≡ Some g → K (At p) ≡ true → R g Done (Local k) → slice_get (reverse (take (takes (callees B.m) op) s.names)) k ≡ Some d → M d ≡ true
-  pub args_result : (p k : ℕ) (g : Callee) (d : Node) (s : Site) (op : Instr) → IsSite S p s → s.head ≡ DoHead op → called B op ≡ Some g → M (At p) ≡ true → R g Ret (Local k) → slice_get (reverse (take (takes (callees B.m) op) s.names)) k ≡ Some d → M d ≡ true
-  pub args_final : (p k : ℕ) (g : Callee) (y : Loc) (d : Node) (s : Site) (op : Instr) → IsSite S p s → s.head ≡ DoHead op → called B op ≡ Some g → writes B op y ≡ true → NeedK B R S K M s.next y → R g (Final y) (Local k) → slice_get (reverse (take (takes (callees B.m) op) s.names)) k ≡ Some d → M d ≡ true
+  pub args_done : (p k : ℕ) (g : Callee) (d : Node) (s : Site) (op : Instr) → IsSite S p s → s.head ≡ DoHead op → called B op ≡ Some g → K (At p) ≡ true
+      → R g Done (Local k) → slice_get (reverse (take (takes (callees B.m) op) s.names)) k ≡ Some d → M d ≡ true
+  pub args_result : (p k : ℕ) (g : Callee) (d : Node) (s : Site) (op : Instr) → IsSite S p s → s.head ≡ DoHead op → called B op ≡ Some g → M (At p) ≡ true
+      → R g Ret (Local k) → slice_get (reverse (take (takes (callees B.m) op) s.names)) k ≡ Some d → M d ≡ true
+  pub args_final : (p k : ℕ) (g : Callee) (y : Loc) (d : Node) (s : Site) (op : Instr) → IsSite S p s → s.head ≡ DoHead op → called B op ≡ Some g
+      → writes B op y ≡ true → NeedK B R S K M s.next y → R g (Final y) (Local k) → slice_get (reverse (take (takes (callees B.m) op) s.names)) k ≡ Some d
+      → M d ≡ true
   pub reaches : (p : ℕ) (x : Loc) (s : Site) → IsSite S p s → writes_at B s.head x ≡ true → NeedK B R S K M s.next x → K (At p) ≡ true
   pub shadows : (p : ℕ) (n : Node) → InShadow S p n → K n ≡ true → K (At p) ≡ true
-  pub carries : (p l : ℕ) (s : Site) → IsSite S p s → Branches s.head l → M (join_of s.around l) ≡ true → NamesIn M (carried (arities s.around) l) (carry_names s.head s.names)
+  pub carries : (p l : ℕ) (s : Site) → IsSite S p s → Branches s.head l → M (join_of s.around l) ≡ true
+      → NamesIn M (carried (arities s.around) l) (carry_names s.head s.names)
   pub live_ends : (e : EndAt) → Among ends e → M e.owner ≡ true → NamesIn M e.count e.names
   pub around_at : (b q : ℕ) (s : Site) → IsSite S b s → b < q → q < s.stop → K (At q) ≡ true → K (At b) ≡ true
   pub around_join : (b q : ℕ) (s : Site) → IsSite S b s → b < q → q < s.stop → K (Join q) ≡ true → K (At b) ≡ true
   pub own_join : (b : ℕ) → K (Join b) ≡ true → K (At b) ≡ true
-
--- what has to be present in a cut
-pub record IsShown (cs : Callees) (S : Sites) (ends : List EndAt) (K P : Node → Bool) : Type 0 where
-  pub kept : (n : Node) → K n ≡ true → P n ≡ true
-  pub joined : (b : ℕ) → K (At b) ≡ true → P (Join b) ≡ true
-  pub taken : (p : ℕ) (s : Site) → IsSite S p s → K (At p) ≡ true → all_operands cs s.around s.head ≤ length s.names → AllIn P (all_operands cs s.around s.head) s.names
-  pub ended : (e : EndAt) (b : ℕ) → Among ends e → e.owner ≡ Join b → length e.names ≡ e.count → K (At b) ≡ true → AllIn P e.count e.names
-  pub body_end : (e : EndAt) → Among ends e → e.owner ≡ Exit → length e.names ≡ e.count → AllIn P e.count e.names
-
--- a body returns at its end, or by a branch to its own label
-abbrev pub IsReturn : Outcome → Type 0
-IsReturn Normal = Unit {0}
-IsReturn (Branch zero) = Unit {0}
-IsReturn _ = ⊥
-
--- the second run returns where the first does, with the same events and after no more turns
-pub record Follows (r r' : Run) : Type 0 where
-  pub returns : IsReturn r'.outcome
-  pub events : r'.events ≡ r.events
-  pub turns : r'.there.store.state.turns ≤ r.there.store.state.turns
-
-abbrev pub AnyInstr : Instr → Type 0
-AnyInstr op = Unit {0}
-
--- a body, with its result and with one or more positions watched, and sets of nodes that are kept, kept as makers, and present
-pub record Cuts (B : Bounds) (t : Option ValType) (c : Marked) (K M P : Node → Bool) : Type 0 where
-  pub shaped : Shaped (callees B.m) AnyInstr (arity t ∷ []) (arity t) c 0
-  pub kept : IsKept B (RowOf B.m (AnyRound B)) (body_sites (callees B.m) (arity t) c) (body_ends (callees B.m) (arity t) c) K M
-  pub shown : IsShown (callees B.m) (body_sites (callees B.m) (arity t) c) (body_ends (callees B.m) (arity t) c) K P
-
--- Where a body returns, its cut returns from the same start, with the same events and after no more turns.
-abbrev pub SliceFollows : Type 0
-SliceFollows =
-    (m : Module) (W : Cover) → ModuleOk (bounds m W) → (t : Option ValType) (c : Marked) (K M P : Node → Bool) (T : Node → ValType) → Cuts (bounds m W) t c K M P
-    → (s : State) → Fits m s → (depth : ℕ) (h : Here) → h.stack ≡ []
-    → (let Z = fixed m s in let b = nested Z depth in
-    IsReturn (run Z b (arity t ∷ []) c h).outcome → Follows (run Z b (arity t ∷ []) c h) (run Z b (arity t ∷ []) (cut_body (callees m) K P T t c) h))

@@ -43,7 +43,8 @@ RowsSound =
     (m : Module) (W : Cover) → ModuleOk (bounds m W) → (f : ℕ) (F : Func) → func_of m f ≡ Some F
     → (o : Output) (J : Loc → Bool) → Omits (bounds m W) f o J
     → (args args' : List Value) (s s' : State) → DifferOnly m F J args args' s s'
-    → (i i' n n' : ℕ) (results results' : List Value) (final final' : State) (events events' : List Event) → Returns m f i args s n results final events → Returns m f i' args' s' n' results' final' events'
+    → (i i' n n' : ℕ) (results results' : List Value) (final final' : State) (events events' : List Event) → Returns m f i args s n results final events
+    → Returns m f i' args' s' n' results' final' events'
     → AgreeAt o results results' final final'
 
 -- the function returns after no more than n turns, and after as many as from the other start
