@@ -26,7 +26,7 @@ use Rattle.wasm_decode.specs.declared.list.Entries.{Entries}
 use Rattle.wasm_decode.specs.Depth.{IsShallowGlobal, IsShallowElem, IsShallowBody, IsShallowSegment}
 use Rattle.wasm_decode.specs.Entries.{ReadsEntries, FirstNot}
 use Rattle.wasm_decode.specs.Contents.{Contents, custom, types, imports, funcs, tables, mems, globals, exports, start, elems, bodies, segments, section_id, SpellsContents, SpellsSection, IsSpelled, IsShallowContents, DeepAt, Keeps, ReadsCustom, ReadsSection, put}
-use Rattle.wasm_decode.proofs.ShapeLemmas.{Any}
+use Rattle.wasm_decode.specs.Entries.{Any}
 
 -- ---- a vector to the end of its text
 

@@ -12,9 +12,9 @@ use Rattle.wasm_decode.specs.declared.list.Entries.{Entries}
 use Rattle.wasm_decode.specs.Entries.{IsOnce, IsEntry, ReadsEntry, FirstNot, AreEntries, AddsEntry, ReadsEntries}
 
 -- what `?` passes on
-pub passed : {A : Type 0} (P : Result A Stop → Type 0) (r : Result A Stop) (e : Stop) → IsErrAnd r (λ d. d ≡ e) → P (Err e) → P r
+pub passed : {A E : Type 0} (P : Result A E → Type 0) (r : Result A E) (e : E) → IsErrAnd r (λ d. d ≡ e) → P (Err e) → P r
 passed P (Ok v) e is h = absurd is
-passed P (Err d) e is h = subst (λ (x : Stop). P (Err x)) (sym is) h
+passed {A} {E} P (Err d) e is h = subst (λ (x : E). P (Err x)) (sym is) h
 
 -- ---- items by their numbers
 

@@ -257,6 +257,10 @@ refused bytes frames i x deep old new m no.Memory refusal lt is h bad e = subst 
 
 -- ---- the whole
 
+pub nothing_deep : (frames : List (ℕ × List ℕ)) (deep : Option (ℕ × ℕ)) (m : Module) → ((at : ℕ × ℕ) → deep ≡ Some at → ⊥) → IsRead frames deep m → IsRead frames None m
+nothing_deep frames None m none h = h
+nothing_deep frames (Some at) m none h = absurd (none at refl)
+
 pub spells_of : (bytes : List ℕ) (frames : List (ℕ × List ℕ)) (m : Module) → IsFramed bytes frames → HasParts frames m → length m.funcs ≡ length m.bodies → Spells bytes m
 spells_of bytes frames m f p same =
     let text : drop 8 bytes ≡ f.framed.text = f.framed.here ∙ ap (λ (t : List ℕ). f.framed.text ++ t) (drop_all bytes) ∙ append-nil f.framed.text in

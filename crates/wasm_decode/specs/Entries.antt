@@ -22,6 +22,21 @@ ReadsEntry {A} Spelled Shallow bytes start (Ok found) = (v : A) × Stands Spelle
 ReadsEntry Spelled Shallow bytes start (Err stop.No) = NoneStands Spelled bytes start
 ReadsEntry Spelled Shallow bytes start (Err stop.Memory) = Unit {0}
 
+-- a byte, as it stands
+abbrev pub IsByte : List ℕ → ℕ → Type 0
+IsByte text byte = text ≡ byte ∷ []
+
+-- no code in it
+abbrev pub Any : {A : Type 0} → A → Type 0
+Any v = Unit {0}
+
+-- A value that is made of others has their texts, and nests too deep where they do.
+pub record Makes {A B : Type 0} (P : List ℕ → A → Type 0) (S : A → Type 0) (Q : List ℕ → B → Type 0) (T : B → Type 0) (MadeOf : A → B → Type 0) : Type 0 where
+  pub on : (text : List ℕ) (v : A) (w : B) → MadeOf v w → P text v → Q text w
+  pub back : (text : List ℕ) (w : B) → Q text w → (v : A) × MadeOf v w × P text v
+  pub shallow : (v : A) (w : B) → MadeOf v w → S v → T w
+  pub deep : (v : A) → (S v → ⊥) → (w : B) × MadeOf v w × (T w → ⊥)
+
 -- both, if both are there
 abbrev pub both_of : {A B : Type 0} → Option A → Option B → Option (A × B)
 both_of (Some v) (Some w) = Some (v, w)

@@ -1,6 +1,6 @@
 use Rattle.wasm_decode.specs.Contents.{Keeps}
 use Rattle.wasm_decode.proofs.EntryLemmas.{passed}
-use Rattle.wasm_decode.proofs.ContentsLemmas.{whole_kept, whole_short, whole_stops}
+use Rattle.wasm_decode.proofs.ContentsLemmas.{whole_short, whole_stops}
 use Rattle.wasm_decode.proofs.contents.keep.Goals as goal
 
 pub returns-in_err-entries : goal.returns-in_err-entries

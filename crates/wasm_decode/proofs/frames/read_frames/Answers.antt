@@ -50,8 +50,8 @@ returns c =
       omega (arith, c.loop-place.invariant.few, end, c.requires),
     )
 
-pub returns-in-None : goal.returns-in-None
-returns-in-None c = record {
+pub returns-in_default : goal.returns-in_default
+returns-in_default c = record {
   begun = c.loop-place.invariant.begun;
   frames = map (frame_at c.args.bytes.now) c.loop-place.frames;
   count = length-map_frame_at c.args.bytes.now c.loop-place.frames ∙ sym c.len.ensures;
@@ -59,5 +59,5 @@ returns-in-None c = record {
   final = c.loop-place.last;
   framed = c.loop-place.invariant.so_far;
   within = c.loop-place-test.true;
-  none = c.in-None.ensures;
+  none = c.in_default.ensures;
 }
