@@ -14,23 +14,33 @@ use Rattle.wasm_types.proofs.ModuleLemmas.{whole, not_whole, none_whole}
 use Rattle.wasm_types.proofs.StandingLemmas.{next, behind_first, both_stands, none_both_first, none_both_second}
 use Rattle.code_decode.specs.declared.outcome.Stop.{Stop}
 use Rattle.code_decode.specs.declared.outcome.Stop.TheVariants as stop
-use Rattle.wasm_decode.specs.Entries.{IsEntry, ReadsEntry, both_of}
+use Rattle.wasm_decode.specs.Entries.{Rule, IsEntry, ReadsEntry, both_of}
 
 -- ---- texts of a stated size
 
 pub part_here : (bytes : List ℕ) (start end : ℕ) → start ≤ end → drop start bytes ≡ slice_range bytes start end ++ drop end bytes
-part_here bytes start end le = sym (take-append-drop (end - start) (drop start bytes)) ∙ ap (λ (t : List ℕ). take (end - start) (drop start bytes) ++ t) (drop-drop (end - start) start bytes ∙ ap (λ (n : ℕ). drop n bytes) (omega arith))
+part_here bytes start end le = sym (take-append-drop (end - start) (drop start bytes)) ∙ ap (λ (t : List ℕ). take (end - start) (drop start bytes) ++ t)
+    (drop-drop (end - start) start bytes ∙ ap (λ (n : ℕ). drop n bytes) (omega arith))
 
 pub part_length : (bytes : List ℕ) (start end : ℕ) → start ≤ end → end ≤ length bytes → length (slice_range bytes start end) ≡ end - start
 part_length bytes start end le within = length-take-le (end - start) (drop start bytes) (omega (arith, length-drop start bytes))
 
-pub range_stands : (bytes : List ℕ) (at start size end : ℕ) → Stands SpellsU32 bytes at start size → end ≡ start + size → end ≤ length bytes → Stands Sized bytes at end (slice_range bytes start end)
+pub range_stands : (bytes : List ℕ) (at start size end : ℕ) → Stands SpellsU32 bytes at start size → end ≡ start + size → end ≤ length bytes
+    → Stands Sized bytes at end (slice_range bytes start end)
 range_stands bytes at start size end p e within =
-    let long : length (slice_range bytes start end) ≡ size = part_length bytes start end (omega arith) within ∙ (let h : end - start ≡ size = omega arith in h) in
+    let long : length (slice_range bytes start end) ≡ size = part_length bytes start end (omega arith) within ∙ (let h : end - start ≡ size = omega arith in
+    h) in
     record {
       text = p.text ++ slice_range bytes start end;
-      spelled = record { front = p.text; back = slice_range bytes start end; parts = refl; first = subst (λ (n : ℕ). SpellsU32 p.text n) (sym long) p.spelled; second = refl };
-      here = p.here ∙ ap (λ (t : List ℕ). p.text ++ t) (part_here bytes start end (omega arith)) ∙ sym (append_assoc p.text (slice_range bytes start end) (drop end bytes));
+      spelled = record {
+        front = p.text;
+        back = slice_range bytes start end;
+        parts = refl;
+        first = subst (λ (n : ℕ). SpellsU32 p.text n) (sym long) p.spelled;
+        second = refl;
+      };
+      here = p.here ∙ ap (λ (t : List ℕ). p.text ++ t) (part_here bytes start end (omega arith))
+          ∙ sym (append_assoc p.text (slice_range bytes start end) (drop end bytes));
       within = within;
     }
 
@@ -39,56 +49,76 @@ range_past bytes at start size p long text rest v here s =
     let r = behind_first SpellsU32 bytes at start size (length v) text s.front s.back rest once_u32 p here s.parts s.first in
     omega (arith, ap length r.1, length-drop start bytes, length-append s.back rest, ap length s.second, r.0, p.within)
 
-pub framed_none : {A : Type 0} (P : List ℕ → A → Type 0) (bytes : List ℕ) (at : ℕ) → NoneStands Sized bytes at → NoneStands (Within P) bytes at
+pub framed_none : {A : Type 0} (P : Rule A) (bytes : List ℕ) (at : ℕ) → NoneStands Sized bytes at → NoneStands (Within P) bytes at
 framed_none P bytes at none text rest v here s = none text rest s.inner here s.sized
 
-framed_stands : {A : Type 0} (P : List ℕ → A → Type 0) (bytes : List ℕ) (at end : ℕ) (part : List ℕ) (v : A) → Stands Sized bytes at end part → P part v → Stands (Within P) bytes at end v
-framed_stands P bytes at end part v s p = record { text = s.text; spelled = record { inner = part; sized = s.spelled; spelled = p }; here = s.here; within = s.within }
+framed_stands : {A : Type 0} (P : Rule A) (bytes : List ℕ) (at end : ℕ) (part : List ℕ) (v : A) → Stands Sized bytes at end part → P part v
+    → Stands (Within P) bytes at end v
+framed_stands P bytes at end part v s p = record {
+  text = s.text;
+  spelled = record { inner = part; sized = s.spelled; spelled = p };
+  here = s.here;
+  within = s.within;
+}
 
-framed_bad : {A : Type 0} (P : List ℕ → A → Type 0) (bytes : List ℕ) (at end : ℕ) (part : List ℕ) → Stands Sized bytes at end part → ((v : A) → P part v → ⊥) → NoneStands (Within P) bytes at
+framed_bad : {A : Type 0} (P : Rule A) (bytes : List ℕ) (at end : ℕ) (part : List ℕ) → Stands Sized bytes at end part → ((v : A) → P part v → ⊥)
+    → NoneStands (Within P) bytes at
 framed_bad {A} P bytes at end part s bad text rest v here t =
     let same = once_sized s.text text (drop end bytes) rest part t.inner s.spelled t.sized (sym s.here ∙ here) in
     bad v (subst (λ (u : List ℕ). P u v) (sym same.1) t.spelled)
 
 -- what was read of the part goes to its end
-pub framed_entry : {A : Type 0} (P : List ℕ → A → Type 0) (S : A → Type 0) (bytes : List ℕ) (at end last : ℕ) (part : List ℕ) (entry : Option A) → Stands Sized bytes at end part
+pub framed_entry : {A : Type 0} (P : Rule A) (S : A → Type 0) (bytes : List ℕ) (at end last : ℕ) (part : List ℕ) (entry : Option A)
+    → Stands Sized bytes at end part
     → ReadsEntry P S part 0 (Ok (entry, last)) → length part ≤ last → ReadsEntry (Within P) S bytes at (Ok (entry, end))
 framed_entry {A} P S bytes at end last part entry s r le =
     let e : last ≡ length part = omega (arith, r.1.within) in
     (r.0, framed_stands P bytes at end part r.0 s (whole P part r.0 (subst (λ (n : ℕ). Stands P part 0 n r.0) e r.1)), r.2)
 
-pub framed_short : {A : Type 0} (P : List ℕ → A → Type 0) (S : A → Type 0) (bytes : List ℕ) (at end last : ℕ) (part : List ℕ) (entry : Option A) → IsOnce P → Stands Sized bytes at end part
+pub framed_short : {A : Type 0} (P : Rule A) (S : A → Type 0) (bytes : List ℕ) (at end last : ℕ) (part : List ℕ) (entry : Option A) → IsOnce P
+    → Stands Sized bytes at end part
     → ReadsEntry P S part 0 (Ok (entry, last)) → last < length part → NoneStands (Within P) bytes at
 framed_short {A} P S bytes at end last part entry once s r lt = framed_bad P bytes at end part s (λ v p. not_whole P part last r.0 v once r.1 lt p)
 
-pub framed_stops : {A : Type 0} (P : List ℕ → A → Type 0) (S : A → Type 0) (bytes : List ℕ) (at end : ℕ) (part : List ℕ) (e : Stop) → Stands Sized bytes at end part → ReadsEntry P S part 0 (Err e) → ReadsEntry (Within P) S bytes at (Err e)
+pub framed_stops : {A : Type 0} (P : Rule A) (S : A → Type 0) (bytes : List ℕ) (at end : ℕ) (part : List ℕ) (e : Stop) → Stands Sized bytes at end part
+    → ReadsEntry P S part 0 (Err e) → ReadsEntry (Within P) S bytes at (Err e)
 framed_stops P S bytes at end part stop.No s none = framed_bad P bytes at end part s (λ v p. none_whole P part v none p)
 framed_stops P S bytes at end part stop.Memory s none = tt
 
 -- ---- one after another
 
-both_entry : {A B : Type 0} (S : A → Type 0) (T : B → Type 0) (first : Option A) (second : Option B) (v : A) (w : B) → IsEntry S first v → IsEntry T second w → IsEntry (λ (u : A × B). S u.0 × T u.1) (both_of first second) (v, w)
+both_entry : {A B : Type 0} (S : A → Type 0) (T : B → Type 0) (first : Option A) (second : Option B) (v : A) (w : B) → IsEntry S first v → IsEntry T second w
+    → IsEntry (λ (u : A × B). S u.0 × T u.1) (both_of first second) (v, w)
 both_entry S T (Some x) (Some y) v w p q = (cc (p.0, q.0), (p.1, q.1))
 both_entry S T (Some x) None v w p q = λ h. q h.1
 both_entry S T None second v w p q = λ h. p h.0
 
-pub both_read : {A B : Type 0} (P : List ℕ → A → Type 0) (S : A → Type 0) (Q : List ℕ → B → Type 0) (T : B → Type 0) (bytes : List ℕ) (at middle end : ℕ) (first : Option A) (second : Option B)
-    → ReadsEntry P S bytes at (Ok (first, middle)) → ReadsEntry Q T bytes middle (Ok (second, end)) → ReadsEntry (Both P Q) (λ (u : A × B). S u.0 × T u.1) bytes at (Ok (both_of first second, end))
-both_read P S Q T bytes at middle end first second p q = ((p.0, q.0), both_stands P Q bytes at middle end p.0 q.0 p.1 q.1, both_entry S T first second p.0 q.0 p.2 q.2)
+pub both_read : {A B : Type 0} (P : Rule A) (S : A → Type 0) (Q : Rule B) (T : B → Type 0) (bytes : List ℕ) (at middle end : ℕ) (first : Option A)
+    (second : Option B)
+    → ReadsEntry P S bytes at (Ok (first, middle)) → ReadsEntry Q T bytes middle (Ok (second, end)) → ReadsEntry (Both P Q) (λ (u : A × B). S u.0 × T u.1)
+    bytes at (Ok (both_of first second, end))
+both_read P S Q T bytes at middle end first second p q = (
+  (p.0, q.0),
+  both_stands P Q bytes at middle end p.0 q.0 p.1 q.1,
+  both_entry S T first second p.0 q.0 p.2 q.2,
+)
 
-pub both_stops : {A B : Type 0} (P : List ℕ → A → Type 0) (S : A → Type 0) (Q : List ℕ → B → Type 0) (T : B → Type 0) (bytes : List ℕ) (at middle : ℕ) (first : Option A) (e : Stop) → IsOnce P
-    → ReadsEntry P S bytes at (Ok (first, middle)) → ReadsEntry Q T bytes middle (Err e) → ReadsEntry (Both P Q) (λ (u : A × B). S u.0 × T u.1) bytes at (Err e)
+pub both_stops : {A B : Type 0} (P : Rule A) (S : A → Type 0) (Q : Rule B) (T : B → Type 0) (bytes : List ℕ) (at middle : ℕ) (first : Option A) (e : Stop)
+    → IsOnce P
+    → ReadsEntry P S bytes at (Ok (first, middle)) → ReadsEntry Q T bytes middle (Err e) → ReadsEntry (Both P Q) (λ (u : A × B). S u.0 × T u.1) bytes at
+    (Err e)
 both_stops P S Q T bytes at middle first stop.No once p q = none_both_second P Q bytes at middle p.0 once p.1 q
 both_stops P S Q T bytes at middle first stop.Memory once p q = tt
 
-pub both_none : {A B : Type 0} (P : List ℕ → A → Type 0) (S : A → Type 0) (Q : List ℕ → B → Type 0) (T : B → Type 0) (bytes : List ℕ) (at : ℕ) (e : Stop)
+pub both_none : {A B : Type 0} (P : Rule A) (S : A → Type 0) (Q : Rule B) (T : B → Type 0) (bytes : List ℕ) (at : ℕ) (e : Stop)
     → ReadsEntry P S bytes at (Err e) → ReadsEntry (Both P Q) (λ (u : A × B). S u.0 × T u.1) bytes at (Err e)
 both_none P S Q T bytes at stop.No p = none_both_first P Q bytes at p
 both_none P S Q T bytes at stop.Memory p = tt
 
 -- ---- behind a byte
 
-pub behind_stands : {A B : Type 0} (P : List ℕ → A → Type 0) (Q : List ℕ → B → Type 0) (byte : ℕ) (bytes : List ℕ) (at end : ℕ) (v : A) (w : B) → at < length bytes → get_or bytes at 0 ≡ byte
+pub behind_stands : {A B : Type 0} (P : Rule A) (Q : Rule B) (byte : ℕ) (bytes : List ℕ) (at end : ℕ) (v : A) (w : B) → at < length bytes
+    → get_or bytes at 0 ≡ byte
     → ((text : List ℕ) → Behind byte (λ rest. P rest v) text → Q text w) → Stands P bytes (at + 1) end v → Stands Q bytes at end w
 behind_stands P Q byte bytes at end v w lt is whole_text s = record {
   text = byte ∷ s.text;
@@ -97,25 +127,36 @@ behind_stands P Q byte bytes at end v w lt is whole_text s = record {
   within = s.within;
 }
 
-pub behind_opened : (R : List ℕ → Type 0) (byte : ℕ) (bytes : List ℕ) (at : ℕ) (text rest : List ℕ) → at < length bytes → drop at bytes ≡ text ++ rest → (s : Behind byte R text) → (get_or bytes at 0 ≡ byte) × (drop (at + 1) bytes ≡ s.rest ++ rest)
+pub behind_opened : (R : List ℕ → Type 0) (byte : ℕ) (bytes : List ℕ) (at : ℕ) (text rest : List ℕ) → at < length bytes → drop at bytes ≡ text ++ rest
+    → (s : Behind byte R text) → (get_or bytes at 0 ≡ byte) × (drop (at + 1) bytes ≡ s.rest ++ rest)
 behind_opened R byte bytes at text rest lt here s =
-    let e : get_or bytes at 0 ∷ drop (at + 1) bytes ≡ byte ∷ (s.rest ++ rest) = sym (next bytes at lt) ∙ here ∙ ap (λ (t : List ℕ). t ++ rest) s.parts in (cc, cc)
+    let e : get_or bytes at 0 ∷ drop (at + 1) bytes ≡ byte ∷ (s.rest ++ rest) = sym (next bytes at lt) ∙ here ∙ ap (λ (t : List ℕ). t ++ rest) s.parts in
+    (cc, cc)
 
-pub behind_reads : {A : Type 0} (P : List ℕ → A → Type 0) (byte : ℕ) (bytes : List ℕ) (at : ℕ) (r : Option (A × ℕ)) → at < length bytes → get_or bytes at 0 ≡ byte
+pub behind_reads : {A : Type 0} (P : Rule A) (byte : ℕ) (bytes : List ℕ) (at : ℕ) (r : Option (A × ℕ)) → at < length bytes → get_or bytes at 0 ≡ byte
     → Reads P bytes (at + 1) r → Reads (λ text v. Behind byte (λ rest. P rest v) text) bytes at r
 behind_reads {A} P byte bytes at (Some found) lt is h =
-    let Q : List ℕ → A → Type 0 = λ text v. Behind byte (λ rest. P rest v) text in
+    let Q : Rule A = λ text v. Behind byte (λ rest. P rest v) text in
     behind_stands P Q byte bytes at found.1 found.0 found.0 lt is (λ text p. p) h
-behind_reads P byte bytes at None lt is none = λ text rest v here s. none s.rest rest v (behind_opened (λ t. P t v) byte bytes at text rest lt here s).1 s.spelled
+behind_reads P byte bytes at None lt is none = λ text rest v here s. none s.rest rest v (behind_opened (λ t. P t v) byte bytes at text rest lt here s).1
+    s.spelled
 
 -- ---- types
 
-limits_none_at : (bytes : List ℕ) (at min mid : ℕ) → at < length bytes → get_or bytes at 0 ≡ 1 → Stands SpellsU32 bytes (at + 1) mid min → NoneStands SpellsU32 bytes mid → (text rest : List ℕ) (m : ℕ) (x : Option ℕ) → drop at bytes ≡ text ++ rest → SpellsLimits text (record { min = m; max = x }) → ⊥
-limits_none_at bytes at min mid lt is p none text rest m None here s = omega (arith, is, (behind_opened (λ t. SpellsU32 t m) 0 bytes at text rest lt here s).0)
+limits_none_at : (bytes : List ℕ) (at min mid : ℕ) → at < length bytes → get_or bytes at 0 ≡ 1 → Stands SpellsU32 bytes (at + 1) mid min
+    → NoneStands SpellsU32 bytes mid → (text rest : List ℕ) (m : ℕ) (x : Option ℕ) → drop at bytes ≡ text ++ rest
+    → SpellsLimits text (record { min = m; max = x }) → ⊥
+limits_none_at bytes at min mid lt is p none text rest m None here s = omega (
+  arith,
+  is,
+  (behind_opened (λ t. SpellsU32 t m) 0 bytes at text rest lt here s).0,
+)
 limits_none_at bytes at min mid lt is p none text rest m (Some x) here s =
-    none_both_second SpellsU32 SpellsU32 bytes (at + 1) mid min once_u32 p none s.rest rest (m, x) (behind_opened (λ t. Both SpellsU32 SpellsU32 t (m, x)) 1 bytes at text rest lt here s).1 s.spelled
+    none_both_second SpellsU32 SpellsU32 bytes (at + 1) mid min once_u32 p none s.rest rest (m, x) (behind_opened (λ t. Both SpellsU32 SpellsU32 t (m, x)) 1
+    bytes at text rest lt here s).1 s.spelled
 
-pub limits_none : (bytes : List ℕ) (at min mid : ℕ) → at < length bytes → get_or bytes at 0 ≡ 1 → Stands SpellsU32 bytes (at + 1) mid min → NoneStands SpellsU32 bytes mid → NoneStands SpellsLimits bytes at
+pub limits_none : (bytes : List ℕ) (at min mid : ℕ) → at < length bytes → get_or bytes at 0 ≡ 1 → Stands SpellsU32 bytes (at + 1) mid min
+    → NoneStands SpellsU32 bytes mid → NoneStands SpellsLimits bytes at
 limits_none bytes at min mid lt is p none text rest v here s = limits_none_at bytes at min mid lt is p none text rest v.min v.max here s
 
 -- ---- names and imports
@@ -128,14 +169,42 @@ name_bad bytes at end part s bad text rest n here t =
     let same = once_sized s.text text (drop end bytes) rest part n.bytes s.spelled t.0 (sym s.here ∙ here) in
     bad (subst IsUtf8 (sym same.1) t.1)
 
-pub import_table_none : (bytes : List ℕ) (at : ℕ) → at < length bytes → get_or bytes at 0 ≡ 1 → NoneStands SpellsTableType bytes (at + 1) → NoneStands SpellsImportKind bytes at
-import_table_none bytes at lt is none text rest (import.Table l) here s = none s.rest rest l (behind_opened (λ t. SpellsTableType t l) 1 bytes at text rest lt here s).1 s.spelled
-import_table_none bytes at lt is none text rest (import.Func n) here s = omega (arith, is, (behind_opened (λ t. SpellsU32 t n) 0 bytes at text rest lt here s).0)
-import_table_none bytes at lt is none text rest (import.Memory l) here s = omega (arith, is, (behind_opened (λ t. SpellsLimits t l) 2 bytes at text rest lt here s).0)
-import_table_none bytes at lt is none text rest (import.Global g) here s = omega (arith, is, (behind_opened (λ t. SpellsGlobalType t g) 3 bytes at text rest lt here s).0)
+pub import_table_none : (bytes : List ℕ) (at : ℕ) → at < length bytes → get_or bytes at 0 ≡ 1 → NoneStands SpellsTableType bytes (at + 1)
+    → NoneStands SpellsImportKind bytes at
+import_table_none bytes at lt is none text rest (import.Table l) here s = none s.rest rest l (behind_opened (λ t. SpellsTableType t l) 1 bytes at text rest lt
+    here s).1 s.spelled
+import_table_none bytes at lt is none text rest (import.Func n) here s = omega (
+  arith,
+  is,
+  (behind_opened (λ t. SpellsU32 t n) 0 bytes at text rest lt here s).0,
+)
+import_table_none bytes at lt is none text rest (import.Memory l) here s = omega (
+  arith,
+  is,
+  (behind_opened (λ t. SpellsLimits t l) 2 bytes at text rest lt here s).0,
+)
+import_table_none bytes at lt is none text rest (import.Global g) here s = omega (
+  arith,
+  is,
+  (behind_opened (λ t. SpellsGlobalType t g) 3 bytes at text rest lt here s).0,
+)
 
-pub import_global_none : (bytes : List ℕ) (at : ℕ) → at < length bytes → get_or bytes at 0 ≡ 3 → NoneStands SpellsGlobalType bytes (at + 1) → NoneStands SpellsImportKind bytes at
-import_global_none bytes at lt is none text rest (import.Global g) here s = none s.rest rest g (behind_opened (λ t. SpellsGlobalType t g) 3 bytes at text rest lt here s).1 s.spelled
-import_global_none bytes at lt is none text rest (import.Func n) here s = omega (arith, is, (behind_opened (λ t. SpellsU32 t n) 0 bytes at text rest lt here s).0)
-import_global_none bytes at lt is none text rest (import.Memory l) here s = omega (arith, is, (behind_opened (λ t. SpellsLimits t l) 2 bytes at text rest lt here s).0)
-import_global_none bytes at lt is none text rest (import.Table l) here s = omega (arith, is, (behind_opened (λ t. SpellsTableType t l) 1 bytes at text rest lt here s).0)
+pub import_global_none : (bytes : List ℕ) (at : ℕ) → at < length bytes → get_or bytes at 0 ≡ 3 → NoneStands SpellsGlobalType bytes (at + 1)
+    → NoneStands SpellsImportKind bytes at
+import_global_none bytes at lt is none text rest (import.Global g) here s = none s.rest rest g (behind_opened (λ t. SpellsGlobalType t g) 3 bytes at text rest
+    lt here s).1 s.spelled
+import_global_none bytes at lt is none text rest (import.Func n) here s = omega (
+  arith,
+  is,
+  (behind_opened (λ t. SpellsU32 t n) 0 bytes at text rest lt here s).0,
+)
+import_global_none bytes at lt is none text rest (import.Memory l) here s = omega (
+  arith,
+  is,
+  (behind_opened (λ t. SpellsLimits t l) 2 bytes at text rest lt here s).0,
+)
+import_global_none bytes at lt is none text rest (import.Table l) here s = omega (
+  arith,
+  is,
+  (behind_opened (λ t. SpellsTableType t l) 1 bytes at text rest lt here s).0,
+)

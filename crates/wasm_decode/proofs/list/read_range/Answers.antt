@@ -8,7 +8,8 @@ within : {bytes : List ℕ} {at end v : ℕ} → Stands SpellsU32 bytes at end v
 within s = s.within
 
 pub returns-then-size-bytes : goal.returns-then-size-bytes
-returns-then-size-bytes c = range_past c.args.bytes.now c.args.at c.in_ok-size.start c.in_ok-size.size c.in_ok-size.ensures (omega (arith, c.if-size-bytes.true, within c.in_ok-size.ensures))
+returns-then-size-bytes c = range_past c.args.bytes.now c.args.at c.in_ok-size.start c.in_ok-size.size c.in_ok-size.ensures
+    (omega (arith, c.if-size-bytes.true, within c.in_ok-size.ensures))
 
 pub returns : goal.returns
 returns c = (
