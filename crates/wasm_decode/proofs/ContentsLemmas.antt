@@ -1,5 +1,5 @@
 -- What a section puts into the module.
-use Rattle.std.proofs.Common.{◌≡◌, ℕ, ◌<◌, ◌≤◌, Bool, true, false, List, [], length, drop, Option, Some, None, Result, Ok, Err, refl, sym, ap, subst, ◌∙◌, arith}
+use Rattle.std.proofs.Common.{◌≡◌, ℕ, ◌<◌, Bool, true, false, List, [], length, drop, Option, Some, None, Result, Ok, Err, refl, sym, ap, subst, ◌∙◌, arith}
 use Rattle.std.specs.Prelude.{All, IsUtf8, bytes_eq, codes, if◌then◌else◌}
 use Rattle.wasm_types.specs.declared.module.FuncType.{FuncType}
 use Rattle.wasm_types.specs.declared.module.Limits.{Limits}
@@ -18,7 +18,7 @@ use Rattle.wasm_types.specs.Types.{SpellsFuncType, SpellsLimits, SpellsTableType
 use Rattle.wasm_types.specs.Sections.{SpellsName, SpellsCustom, SpellsTypes, SpellsImport, SpellsImports, SpellsFuncs, SpellsTables, SpellsMems, SpellsGlobal, SpellsGlobals, SpellsExport, SpellsExports, SpellsElem, SpellsElems, SpellsBody, SpellsBodies, SpellsSegment, SpellsSegments}
 use Rattle.wasm_types.specs.Modules.{named_payload, later_of}
 use Rattle.wasm_types.proofs.Once.{IsOnce}
-use Rattle.wasm_types.proofs.ModuleLemmas.{whole, not_whole, none_whole}
+use Rattle.wasm_types.proofs.ModuleLemmas.{not_whole, none_whole}
 use Rattle.wasm_types.proofs.Once.{once_counted}
 use Rattle.code_decode.specs.declared.outcome.Stop.{Stop}
 use Rattle.code_decode.specs.declared.outcome.Stop.TheVariants as stop
@@ -29,13 +29,6 @@ use Rattle.wasm_decode.specs.Contents.{Contents, custom, types, imports, funcs, 
 use Rattle.wasm_decode.specs.Entries.{Any}
 
 -- ---- a vector to the end of its text
-
-pub whole_kept : {A : Type 0} (P : Rule A) (S : A → Type 0) (text : List ℕ) (end : ℕ) (found : Entries A) → ReadsEntries P S text 0 (Ok (found, end))
-    → length text ≤ end
-    → Keeps P S text found.items (Ok found.deep)
-whole_kept {A} P S text end found h le =
-    let e : end ≡ length text = omega (arith, h.1.within) in
-    (h.0, whole (Counted P) text h.0 (subst (λ (n : ℕ). Stands (Counted P) text 0 n h.0) e h.1), h.2)
 
 pub whole_short : {A : Type 0} (P : Rule A) (S : A → Type 0) (text : List ℕ) (end : ℕ) (found : Entries A) → IsOnce P
     → ReadsEntries P S text 0 (Ok (found, end)) → end < length text

@@ -10,8 +10,8 @@ use Rattle.wasm_types.specs.Types.{SpellsLimits, SpellsTableType, SpellsGlobalTy
 use Rattle.wasm_types.specs.Sections.{SpellsName, SpellsImportKind}
 use Rattle.wasm_types.proofs.Once.{IsOnce, once_u32}
 use Rattle.wasm_types.proofs.SectionLemmas.{once_sized}
-use Rattle.wasm_types.proofs.ModuleLemmas.{whole, not_whole, none_whole}
-use Rattle.wasm_types.proofs.StandingLemmas.{next, behind_first, both_stands, none_both_first, none_both_second}
+use Rattle.wasm_types.proofs.ModuleLemmas.{not_whole, none_whole}
+use Rattle.wasm_types.proofs.StandingLemmas.{next, behind_first, both_stands, none_both_second}
 use Rattle.code_decode.specs.declared.outcome.Stop.{Stop}
 use Rattle.code_decode.specs.declared.outcome.Stop.TheVariants as stop
 use Rattle.wasm_decode.specs.Entries.{Rule, IsEntry, ReadsEntry, both_of}
@@ -67,14 +67,6 @@ framed_bad {A} P bytes at end part s bad text rest v here t =
     let same = once_sized s.text text (drop end bytes) rest part t.inner s.spelled t.sized (sym s.here ∙ here) in
     bad v (subst (λ (u : List ℕ). P u v) (sym same.1) t.spelled)
 
--- what was read of the part goes to its end
-pub framed_entry : {A : Type 0} (P : Rule A) (S : A → Type 0) (bytes : List ℕ) (at end last : ℕ) (part : List ℕ) (entry : Option A)
-    → Stands Sized bytes at end part
-    → ReadsEntry P S part 0 (Ok (entry, last)) → length part ≤ last → ReadsEntry (Within P) S bytes at (Ok (entry, end))
-framed_entry {A} P S bytes at end last part entry s r le =
-    let e : last ≡ length part = omega (arith, r.1.within) in
-    (r.0, framed_stands P bytes at end part r.0 s (whole P part r.0 (subst (λ (n : ℕ). Stands P part 0 n r.0) e r.1)), r.2)
-
 pub framed_short : {A : Type 0} (P : Rule A) (S : A → Type 0) (bytes : List ℕ) (at end last : ℕ) (part : List ℕ) (entry : Option A) → IsOnce P
     → Stands Sized bytes at end part
     → ReadsEntry P S part 0 (Ok (entry, last)) → last < length part → NoneStands (Within P) bytes at
@@ -109,11 +101,6 @@ pub both_stops : {A B : Type 0} (P : Rule A) (S : A → Type 0) (Q : Rule B) (T 
     (Err e)
 both_stops P S Q T bytes at middle first stop.No once p q = none_both_second P Q bytes at middle p.0 once p.1 q
 both_stops P S Q T bytes at middle first stop.Memory once p q = tt
-
-pub both_none : {A B : Type 0} (P : Rule A) (S : A → Type 0) (Q : Rule B) (T : B → Type 0) (bytes : List ℕ) (at : ℕ) (e : Stop)
-    → ReadsEntry P S bytes at (Err e) → ReadsEntry (Both P Q) (λ (u : A × B). S u.0 × T u.1) bytes at (Err e)
-both_none P S Q T bytes at stop.No p = none_both_first P Q bytes at p
-both_none P S Q T bytes at stop.Memory p = tt
 
 -- ---- behind a byte
 

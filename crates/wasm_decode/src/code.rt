@@ -1,6 +1,6 @@
 //! Code, and what stands with it (sections 5.5.9 and 5.5.12 to 5.5.14).
 
-ghost use Rattle.std.specs.Prelude.{◌≡◌, ◌<◌, ◌^◌, Decides};
+ghost use Rattle.std.specs.Prelude.{◌≡◌, refl, ◌<◌, ◌^◌, Decides};
 ghost use Rattle.wasm_types.specs.Grammar.{SpellsInstrs};
 ghost use Rattle.wasm_types.specs.Parts.{Counted};
 ghost use Rattle.wasm_types.specs.Sections.{SpellsGlobal, SpellsElem, SpellsRun, SpellsBody, SpellsSegment, local_count};
@@ -8,7 +8,7 @@ ghost use Rattle.wasm_types.proofs.Once.{once_counted};
 ghost use Rattle.wasm_types.proofs.SectionLemmas.{once_instrs, once_global, once_elem, once_run, once_body, once_segment, once_with};
 ghost use Rattle.wasm_decode.specs.Depth.{IsShallow, IsShallowGlobal, IsShallowElem, IsShallowBody, IsShallowSegment};
 ghost use Rattle.wasm_decode.specs.Entries.{Any, SpellsLocals};
-ghost use Rattle.wasm_decode.specs.Shapes.{global_makes, elem_makes, run_makes, locals_makes, body_makes, segment_makes};
+ghost use Rattle.wasm_decode.specs.Shapes.{made_of_parts, locals_makes, body_makes};
 
 use crate::list::{Bytes, Vector};
 use crate::production::{Made, Of, Production};
@@ -57,7 +57,7 @@ impl Made for GlobalDef {
 
     ghost once = { once_global };
 
-    ghost makes = { global_makes };
+    ghost makes = { made_of_parts _ _ _ _ (λ v. (record { kind = v.0; init = v.1 }, refl)) (λ _ s. s.1) (λ _ t. (tt, t)) };
 }
 
 impl Made for Elem {
@@ -80,7 +80,7 @@ impl Made for Elem {
 
     ghost once = { once_elem };
 
-    ghost makes = { elem_makes };
+    ghost makes = { made_of_parts _ _ _ _ (λ v. (record { table = v.0; offset = v.1.0; funcs = v.1.1 }, refl)) (λ _ s. s.1.0) (λ _ t. (tt, (t, λ _ _ _. tt))) };
 }
 
 impl Made for LocalRun {
@@ -99,7 +99,7 @@ impl Made for LocalRun {
 
     ghost once = { once_run };
 
-    ghost makes = { run_makes };
+    ghost makes = { made_of_parts _ _ _ _ (λ v. (record { count = v.0; kind = v.1 }, refl)) (λ _ _. tt) (λ _ _. (tt, tt)) };
 }
 
 /// Whether the counts of the runs add up to less than 2^32.
@@ -177,5 +177,5 @@ impl Made for DataSegment {
 
     ghost once = { once_segment };
 
-    ghost makes = { segment_makes };
+    ghost makes = { made_of_parts _ _ _ _ (λ v. (record { memory = v.0; offset = v.1.0; bytes = v.1.1 }, refl)) (λ _ s. s.1.0) (λ _ t. (tt, (t, tt))) };
 }

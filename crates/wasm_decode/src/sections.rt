@@ -1,10 +1,10 @@
 //! What stands in the sections without code (sections 5.2.4, 5.5.3, 5.5.5 and 5.5.10).
 
-ghost use Rattle.std.specs.Prelude.{◌≡◌, Decides, IsUtf8};
+ghost use Rattle.std.specs.Prelude.{◌≡◌, refl, Decides, IsUtf8};
 ghost use Rattle.wasm_types.specs.Sections.{SpellsName, SpellsImportKind, SpellsImport, SpellsExportKind, SpellsExport};
 ghost use Rattle.wasm_types.proofs.SectionLemmas.{once_name, once_import, once_import_kind, once_export_kind, once_export};
 ghost use Rattle.wasm_decode.specs.Entries.{Any, ReadsName};
-ghost use Rattle.wasm_decode.specs.Shapes.{name_makes, import_makes, export_makes};
+ghost use Rattle.wasm_decode.specs.Shapes.{made_of_parts, name_makes};
 
 use crate::list::{Bytes, read_range};
 use crate::production::{Made, Of, Plain};
@@ -102,7 +102,7 @@ impl Made for Import {
 
     ghost once = { once_import };
 
-    ghost makes = { import_makes };
+    ghost makes = { made_of_parts _ _ _ _ (λ v. (record { «module» = v.0; name = v.1.0; kind = v.1.1 }, refl)) (λ _ _. tt) (λ _ _. (tt, (tt, tt))) };
 }
 
 impl Plain for ExportKind {
@@ -142,5 +142,5 @@ impl Made for Export {
 
     ghost once = { once_export };
 
-    ghost makes = { export_makes };
+    ghost makes = { made_of_parts _ _ _ _ (λ v. (record { name = v.0; kind = v.1.0; index = v.1.1 }, refl)) (λ _ _. tt) (λ _ _. (tt, (tt, tt))) };
 }
