@@ -16,8 +16,9 @@ use Rattle.wasm_types.specs.Sections.{SpellsCustom, SpellsTypes, SpellsImports, 
 use Rattle.wasm_types.specs.Modules.{contents_of, ListIs, OptionIs, NamesAre, named_payload, later_of}
 use Rattle.code_decode.specs.declared.outcome.Stop.{Stop}
 use Rattle.code_decode.specs.declared.outcome.Stop.TheVariants as stop
+use Rattle.wasm_decode.specs.Frames.{Section}
 use Rattle.wasm_decode.specs.Depth.{IsShallowGlobal, IsShallowElem, IsShallowBody, IsShallowSegment}
-use Rattle.wasm_decode.specs.Entries.{FirstNot, AreEntries}
+use Rattle.wasm_decode.specs.Entries.{Rule, FirstNot, AreEntries}
 
 -- what a section has, by its kind
 pub data Contents : Type 0 where
@@ -63,10 +64,10 @@ SpellsContents text (bodies xs) = SpellsBodies text xs
 SpellsContents text (segments xs) = SpellsSegments text xs
 
 -- a section of the kind that its id says
-abbrev pub SpellsSection : ℕ × List ℕ → Contents → Type 0
+abbrev pub SpellsSection : Section → Contents → Type 0
 SpellsSection f c = (section_id c ≡ f.0) × SpellsContents f.1 c
 
-abbrev pub IsSpelled : ℕ × List ℕ → Type 0
+abbrev pub IsSpelled : Section → Type 0
 IsSpelled f = (c : Contents) × SpellsSection f c
 
 -- ---- how deep code nests in a section
@@ -86,30 +87,30 @@ DeepAt (bodies xs) entry = FirstNot IsShallowBody xs entry
 DeepAt (segments xs) entry = FirstNot IsShallowSegment xs entry
 DeepAt _ entry = ⊥
 
-abbrev pub IsShallowSection : ℕ × List ℕ → Type 0
+abbrev pub IsShallowSection : Section → Type 0
 IsShallowSection f = (c : Contents) × SpellsSection f c × IsShallowContents c
 
 -- ---- sections in a row
 
 -- section k, which has the id, is the first that isn't spelled
-pub record FirstUnspelled (frames : List (ℕ × List ℕ)) (k id : ℕ) : Type 0 where
+pub record FirstUnspelled (frames : List Section) (k id : ℕ) : Type 0 where
   pub text : List ℕ
   pub there : slice_get frames k ≡ Some (id, text)
   pub unspelled : IsSpelled (id, text) → ⊥
-  pub before : (j : ℕ) (f : ℕ × List ℕ) → j < k → slice_get frames j ≡ Some f → IsSpelled f
+  pub before : (j : ℕ) (f : Section) → j < k → slice_get frames j ≡ Some f → IsSpelled f
 
 -- a section of the id is the first with code that nests too deep, first in the entry
-pub record FirstDeep (frames : List (ℕ × List ℕ)) (id entry : ℕ) : Type 0 where
+pub record FirstDeep (frames : List Section) (id entry : ℕ) : Type 0 where
   pub k : ℕ
   pub text : List ℕ
   pub there : slice_get frames k ≡ Some (id, text)
   pub contents : Contents
   pub spelled : SpellsSection (id, text) contents
   pub deep : DeepAt contents entry
-  pub before : (j : ℕ) (f : ℕ × List ℕ) → j < k → slice_get frames j ≡ Some f → IsShallowSection f
+  pub before : (j : ℕ) (f : Section) → j < k → slice_get frames j ≡ Some f → IsShallowSection f
 
 -- each list of the module is spelled by its section, and is empty where there is none
-pub record HasParts (frames : List (ℕ × List ℕ)) (m : Module) : Type 0 where
+pub record HasParts (frames : List Section) (m : Module) : Type 0 where
   pub types : ListIs SpellsTypes m.types (contents_of 1 frames)
   pub imports : ListIs SpellsImports m.imports (contents_of 2 frames)
   pub funcs : ListIs SpellsFuncs m.funcs (contents_of 3 frames)
@@ -141,14 +142,15 @@ put (segments xs) m = record m { segments = xs }
 -- ---- what readers of contents answer
 
 -- what is kept of the vector that the whole text spells: all entries, or how many there are before the first that nests too deep
-abbrev pub Keeps : {A : Type 0} → (List ℕ → A → Type 0) → (A → Type 0) → List ℕ → List A → Result (Option ℕ) Stop → Type 0
+abbrev pub Keeps : {A : Type 0} → Rule A → (A → Type 0) → List ℕ → List A → Result (Option ℕ) Stop → Type 0
 Keeps {A} Spelled Shallow text kept (Ok deep) = (xs : List A) × Counted Spelled text xs × AreEntries Shallow kept deep xs
 Keeps {A} Spelled Shallow text kept (Err stop.No) = (xs : List A) → Counted Spelled text xs → ⊥
 Keeps Spelled Shallow text kept (Err stop.Memory) = Unit {0}
 
 -- the payload of the last section named `name`, before and after a custom section
 abbrev pub ReadsCustom : List ℕ → Option (List ℕ) → Option (List ℕ) → Result Unit Stop → Type 0
-ReadsCustom text old new (Ok _) = (name : Name) × (payload : List ℕ) × SpellsCustom text (name, payload) × (new ≡ later_of (named_payload (name, payload)) old)
+ReadsCustom text old new (Ok _) = (name : Name) × (payload : List ℕ) × SpellsCustom text (name, payload) × (new ≡ later_of (named_payload (name, payload))
+    old)
 ReadsCustom text old new (Err stop.No) = (name : Name) (payload : List ℕ) → SpellsCustom text (name, payload) → ⊥
 ReadsCustom text old new (Err stop.Memory) = Unit {0}
 

@@ -4,16 +4,15 @@ ghost use Rattle.std.specs.Prelude.{◌≡◌, ◌≤◌, MatchOption, codes, by
 ghost use Rattle.wasm_types.specs.Numbers.{SpellsU32};
 ghost use Rattle.wasm_decode.specs.Contents.{Keeps, ReadsCustom, ReadsSection};
 
-use crate::code::{Bodies, Elems, Globals, Segments};
-use crate::list::{Framed, Numbers, read_entries};
-use crate::production::Production;
-use crate::sections::{Exports, Imports, read_name};
-use crate::types::{FuncTypes, MemoryTypes, TableTypes};
+use crate::list::{Framed, read_entries};
+use crate::production::{Of, Production};
+use crate::sections::read_name;
+use crate::types::TableType;
 use code_decode::Stop;
 use leb_codec::read_u32;
 use sqlite_items::Items;
 use std::alloc::Global;
-use wasm_types::Module;
+use wasm_types::{Body, DataSegment, Elem, Export, FuncType, GlobalDef, Import, Limits, Module};
 
 /// Keeps the entries of the vector that the whole text spells; the number of the first in which code nests too deep.
 fn keep<E: Production>(
@@ -76,13 +75,13 @@ pub(crate) fn read_section(
             read_custom(alloc, text, &mut into.names)?;
             Ok(None)
         }
-        1 => keep::<FuncTypes>(alloc, text, &mut into.types),
-        2 => keep::<Imports>(alloc, text, &mut into.imports),
-        3 => keep::<Numbers>(alloc, text, &mut into.funcs),
-        4 => keep::<TableTypes>(alloc, text, &mut into.tables),
-        5 => keep::<MemoryTypes>(alloc, text, &mut into.mems),
-        6 => keep::<Globals>(alloc, text, &mut into.globals),
-        7 => keep::<Exports>(alloc, text, &mut into.exports),
+        1 => keep::<Of<FuncType>>(alloc, text, &mut into.types),
+        2 => keep::<Of<Import>>(alloc, text, &mut into.imports),
+        3 => keep::<u32>(alloc, text, &mut into.funcs),
+        4 => keep::<TableType>(alloc, text, &mut into.tables),
+        5 => keep::<Limits>(alloc, text, &mut into.mems),
+        6 => keep::<Of<GlobalDef>>(alloc, text, &mut into.globals),
+        7 => keep::<Of<Export>>(alloc, text, &mut into.exports),
         8 => {
             let Some(func) = read_start(text) else {
                 return Err(Stop::No);
@@ -90,8 +89,8 @@ pub(crate) fn read_section(
             into.start = Some(func);
             Ok(None)
         }
-        9 => keep::<Elems>(alloc, text, &mut into.elems),
-        10 => keep::<Framed<Bodies>>(alloc, text, &mut into.bodies),
-        _ => keep::<Segments>(alloc, text, &mut into.segments),
+        9 => keep::<Of<Elem>>(alloc, text, &mut into.elems),
+        10 => keep::<Framed<Of<Body>>>(alloc, text, &mut into.bodies),
+        _ => keep::<Of<DataSegment>>(alloc, text, &mut into.segments),
     }
 }

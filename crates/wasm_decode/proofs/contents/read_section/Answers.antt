@@ -3,10 +3,12 @@ use Rattle.wasm_decode.proofs.ContentsLemmas.{at_id, section_custom, section_sta
 use Rattle.wasm_decode.proofs.contents.read_section.Goals as goal
 
 pub returns-in_ok-read_custom-in-0 : goal.returns-in_ok-read_custom-in-0
-returns-in_ok-read_custom-in-0 c = at_id 0 c.args.id c.args.text.now c.args.into.now _ (Ok None) c.in-0.is (section_custom c.args.text.now c.args.into.now c.read_custom.new.names c.in_ok-read_custom-in-0.ensures)
+returns-in_ok-read_custom-in-0 c = at_id 0 c.args.id c.args.text.now c.args.into.now _ (Ok None) c.in-0.is (section_custom c.args.text.now c.args.into.now
+    c.read_custom.new.names c.in_ok-read_custom-in-0.ensures)
 
 pub returns-in-Some : goal.returns-in-Some
-returns-in-Some c = at_id 8 c.args.id c.args.text.now c.args.into.now _ (Ok None) c.in-8.is (section_start c.args.text.now c.args.into.now c.in-Some.func c.in-Some.ensures)
+returns-in-Some c = at_id 8 c.args.id c.args.text.now c.args.into.now _ (Ok None) c.in-8.is (section_start c.args.text.now c.args.into.now c.in-Some.func
+    c.in-Some.ensures)
 
 pub returns-in-1 : goal.returns-in-1
 returns-in-1 c = section_listed types_listed c.args.id c.args.text.now c.args.into.now c.keep.new.list c.keep.result c.in-1.is c.keep.ensures
@@ -33,7 +35,9 @@ pub returns-in-9 : goal.returns-in-9
 returns-in-9 c = section_listed elems_listed c.args.id c.args.text.now c.args.into.now c.keep-in-9.new.list c.keep-in-9.result c.in-9.is c.keep-in-9.ensures
 
 pub returns-in-10 : goal.returns-in-10
-returns-in-10 c = section_listed bodies_listed c.args.id c.args.text.now c.args.into.now c.keep-in-10.new.list c.keep-in-10.result c.in-10.is c.keep-in-10.ensures
+returns-in-10 c = section_listed bodies_listed c.args.id c.args.text.now c.args.into.now c.keep-in-10.new.list c.keep-in-10.result c.in-10.is
+    c.keep-in-10.ensures
 
 pub returns-in_default : goal.returns-in_default
-returns-in_default c = section_listed segments_listed c.args.id c.args.text.now c.args.into.now c.keep-in_default.new.list c.keep-in_default.result (omega arith) c.keep-in_default.ensures
+returns-in_default c = section_listed segments_listed c.args.id c.args.text.now c.args.into.now c.keep-in_default.new.list c.keep-in_default.result
+    (omega arith) c.keep-in_default.ensures
