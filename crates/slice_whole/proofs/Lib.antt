@@ -1,0 +1,4 @@
+mod SmallCode
+mod FlatSites
+pub mod FlatSlice
+pub mod Made
