@@ -91,10 +91,12 @@ module _ (m : Module) (type : ℕ) (F : FuncType) (b : Body) (name : Name) where
   count_more = ap length types_more ∙ length-append (func_types m) (type ∷ [])
 
   type_before : (f : ℕ) → f < func_count m → type_of_func new f ≡ type_of_func m f
-  type_before f lt = ap (λ (ns : List ℕ). type_numbered m.types (slice_get ns f)) types_more ∙ ap (type_numbered m.types) (before_last (func_types m) type f lt)
+  type_before f lt =
+      ap (λ (ns : List ℕ). type_numbered m.types (slice_get ns f)) types_more ∙ ap (type_numbered m.types) (before_last (func_types m) type f lt)
 
   type_last : (f : ℕ) → f ≡ func_count m → slice_get m.types type ≡ Some F → type_of_func new f ≡ Some F
-  type_last f e is = ap (λ (ns : List ℕ). type_numbered m.types (slice_get ns f)) types_more ∙ ap (type_numbered m.types) (at_last (func_types m) type f e) ∙ is
+  type_last f e is =
+      ap (λ (ns : List ℕ). type_numbered m.types (slice_get ns f)) types_more ∙ ap (type_numbered m.types) (at_last (func_types m) type f e) ∙ is
 
   numbered_at : (types : List FuncType) (o : Option ℕ) (G : FuncType) → type_numbered types o ≡ Some G → (k : ℕ) × (o ≡ Some k)
   numbered_at types None G e = absurd cc
@@ -132,7 +134,8 @@ module _ (m : Module) (type : ℕ) (F : FuncType) (b : Body) (name : Name) where
     pub leads_stay : (ls : List (List ValType)) (c : Code) (s s' : List ValType) → Leads old_context ls c s s' → Leads new_context ls c s s'
     leads_stay ls done s s' h = h
     leads_stay ls (one i rest) s s' (mid, p, h) = (mid, passes_stay ls i s mid p, leads_stay ls rest mid s' h)
-    leads_stay ls (block kind inner rest) s s' h = (leads_stay (values_of kind ∷ ls) inner [] (values_of kind) h.0, leads_stay ls rest (values_of kind ++ s) s' h.1)
+    leads_stay ls (block kind inner rest) s s' h =
+        (leads_stay (values_of kind ∷ ls) inner [] (values_of kind) h.0, leads_stay ls rest (values_of kind ++ s) s' h.1)
     leads_stay ls (repeat kind inner rest) s s' h = (leads_stay ([] ∷ ls) inner [] (values_of kind) h.0, leads_stay ls rest (values_of kind ++ s) s' h.1)
     leads_stay ls (branch kind x y rest) s s' (r, e, hx, hy, h) =
         (r, e, leads_stay (values_of kind ∷ ls) x [] (values_of kind) hx, leads_stay (values_of kind ∷ ls) y [] (values_of kind) hy, leads_stay ls rest (values_of kind ++ r) s' h)
@@ -274,7 +277,8 @@ module _ (m : Module) (type : ℕ) (F : FuncType) (b : Body) (name : Name) where
   ]
 
   pub nesting_appended : (most : ℕ) → NestsAtMost most m → nest (code_of b.code) ≤ most → NestsAtMost most new
-  nesting_appended most ok le = record { globals = ok.globals; elems = ok.elems; bodies = All-push (λ (x : Body). nest (code_of x.code) ≤ most) m.bodies b ok.bodies le; segments = ok.segments }
+  nesting_appended most ok le =
+      record { globals = ok.globals; elems = ok.elems; bodies = All-push (λ (x : Body). nest (code_of x.code) ≤ most) m.bodies b ok.bodies le; segments = ok.segments }
 
 -- ---- the slice
 
@@ -288,7 +292,8 @@ type_at m f type F (le, at) is =
     get_back (x ∷ xs) ys k = let e : length (x ∷ xs) + k ≡ suc (length xs + k) = omega arith in ap (slice_get (x ∷ (xs ++ ys))) e ∙ get_back xs ys k
 
 -- an own function of a type has that type, and a body of it
-pub own_body : (m : Module) → IsValid m → HasNoFloat m → (f type : ℕ) (F : FuncType) (b : Body) → IsOwnFunc m f type → slice_get m.types type ≡ Some F → HasBody m f b → HasTypedBody m F b
+pub own_body : (m : Module) → IsValid m → HasNoFloat m → (f type : ℕ) (F : FuncType) (b : Body) → IsOwnFunc m f type → slice_get m.types type ≡ Some F
+    → HasBody m f b → HasTypedBody m F b
 own_body m valid nofl f type F b own is has = record { valid = valid; no_float = nofl; func = f; kind_is = type_at m f type F own is; has_body = has }
 
 module _ (m : Module) (name : Name) (slice : Module) (valid : IsValid m) (sub : InSubset m) (h : HasCut m name slice) where
@@ -324,8 +329,10 @@ module _ (m : Module) (name : Name) (slice : Module) (valid : IsValid m) (sub : 
       record {
         type_is = h.kind_is;
         number = at_of IsU32 m.funcs (h.func - import_count m) h.type valid.0.funcs h.own.1;
-        proper = (proper.0, proper.1, subst ProperCode (sym back) (cut_proper (callees m) h.kept h.present h.types (result_type h.kind) d 0 [] (subst ProperCode (sym same) proper.2)));
-        integer = (integer.0, subst IsIntegerCode (sym back) (cut_integer (callees m) h.kept h.present h.types (result_type h.kind) d 0 [] (subst IsIntegerCode (sym same) integer.1)));
+        proper =
+            (proper.0, proper.1, subst ProperCode (sym back) (cut_proper (callees m) h.kept h.present h.types (result_type h.kind) d 0 [] (subst ProperCode (sym same) proper.2)));
+        integer =
+            (integer.0, subst IsIntegerCode (sym back) (cut_integer (callees m) h.kept h.present h.types (result_type h.kind) d 0 [] (subst IsIntegerCode (sym same) integer.1)));
         valid = cut_is_valid m h.kind h.body typed_body h.watched h.kept h.present h.types h.typed h.needed;
         name_is = h.proper;
         free = h.free;

@@ -79,7 +79,8 @@ types_integer (k ∷ ks) h = (All-head IsInteger k ks h, types_integer ks (All-t
 
 runs_integer : (rs : List LocalRun) → All (λ (r : LocalRun). IsInteger r.kind) rs → All IsInteger (run_types rs)
 runs_integer [] all = All-nil IsInteger
-runs_integer (r ∷ rs) all = All-append IsInteger (replicate r.count r.kind) (run_types rs) (All-replicate IsInteger r.count r.kind (All-head (λ (x : LocalRun). IsInteger x.kind) r rs all)) (runs_integer rs (All-tail (λ (x : LocalRun). IsInteger x.kind) r rs all))
+runs_integer (r ∷ rs) all =
+    All-append IsInteger (replicate r.count r.kind) (run_types rs) (All-replicate IsInteger r.count r.kind (All-head (λ (x : LocalRun). IsInteger x.kind) r rs all)) (runs_integer rs (All-tail (λ (x : LocalRun). IsInteger x.kind) r rs all))
 
 import_integer : (i : ImportKind) → IsIntegerImport i → Each (λ (g : GlobalType). IsInteger g.kind) (global_import i)
 import_integer (import.Func type) h k g at = absurd cc
@@ -87,15 +88,19 @@ import_integer (import.Table l) h k g at = absurd cc
 import_integer (import.Memory l) h k g at = absurd cc
 import_integer (import.Global x) h k g at = each_cons (λ (g : GlobalType). IsInteger g.kind) x [] h (λ k g at. absurd cc) k g at
 
-imports_integer : (is : List Import) → Each (λ (i : Import). IsIntegerImport i.kind) is → Each (λ (g : GlobalType). IsInteger g.kind) (imported global_import is)
+imports_integer : (is : List Import) → Each (λ (i : Import). IsIntegerImport i.kind) is
+    → Each (λ (g : GlobalType). IsInteger g.kind) (imported global_import is)
 imports_integer [] h k g at = absurd cc
-imports_integer (i ∷ is) h k g at = each_append (λ (g : GlobalType). IsInteger g.kind) (global_import i.kind) (imported global_import is) (import_integer i.kind (h 0 i refl)) (imports_integer is (λ k x at. h (suc k) x at)) k g at
+imports_integer (i ∷ is) h k g at =
+    each_append (λ (g : GlobalType). IsInteger g.kind) (global_import i.kind) (imported global_import is) (import_integer i.kind (h 0 i refl)) (imports_integer is (λ k x at. h (suc k) x at)) k g at
 
-globals_integer : (gs : List GlobalDef) → Each (λ (g : GlobalDef). IsInteger g.kind.kind) gs → Each (λ (g : GlobalType). IsInteger g.kind) (map global_kind gs)
+globals_integer : (gs : List GlobalDef) → Each (λ (g : GlobalDef). IsInteger g.kind.kind) gs
+    → Each (λ (g : GlobalType). IsInteger g.kind) (map global_kind gs)
 globals_integer [] h k g at = absurd cc
 globals_integer (x ∷ gs) h k g at = each_cons (λ (g : GlobalType). IsInteger g.kind) x.kind (map global_kind gs) (h 0 x refl) (globals_integer gs (λ k y at. h (suc k) y at)) k g at
 
-pub context_integer : (m : Module) → IsValid m → HasNoFloat m → (f : ℕ) (F : FuncType) (b : Body) → type_of_func m f ≡ Some F → HasBody m f b → IsIntegerContext (context_of m F b)
+pub context_integer : (m : Module) → IsValid m → HasNoFloat m → (f : ℕ) (F : FuncType) (b : Body) → type_of_func m f ≡ Some F → HasBody m f b
+    → IsIntegerContext (context_of m F b)
 context_integer m valid nofl f F b at has = record {
   locals = λ x k get. at_of IsInteger (local_types F b) x k (All-append IsInteger F.params (run_types b.locals) params (runs_integer b.locals (nofl (part.FuncAt f) b has).0)) get;
   globals = each_append (λ (g : GlobalType). IsInteger g.kind) (imported global_import m.imports) (map global_kind m.globals)
@@ -143,7 +148,8 @@ pub record BodyCode (c : Context) (t : Option ValType) (code : Code) : Type 0 wh
   pub arity : arity t ≡ length c.result
   pub leads : Leads c (c.result ∷ []) code [] (values_of t)
 
-pub body_code : (m : Module) → IsValid m → HasNoFloat m → (f : ℕ) (F : FuncType) (b : Body) → type_of_func m f ≡ Some F → HasBody m f b → BodyCode (context_of m F b) (result_type F) (code_of b.code)
+pub body_code : (m : Module) → IsValid m → HasNoFloat m → (f : ℕ) (F : FuncType) (b : Body) → type_of_func m f ≡ Some F → HasBody m f b
+    → BodyCode (context_of m F b) (result_type F) (code_of b.code)
 body_code m valid nofl f F b at has =
     let ok = context_integer m valid nofl f F b at has in
     let n = numbered m.types (slice_get (func_types m) f) F at in
@@ -158,12 +164,14 @@ body_code m valid nofl f F b at has =
       leads = subst (λ z. Leads (context_of m F b) (F.results ∷ []) (code_of b.code) [] z) (sym e) (valid.1 (part.FuncAt f) F b at has);
     }
 
-pub typed_code : (c : Context) (t : Option ValType) (code : Code) (w : ℕ → Bool) (T : Node → ValType) → BodyCode c t code → TypesLive c T (marked w 0 code) 0 [] → Typed c T (c.result ∷ []) t (marked w 0 code) 0 []
+pub typed_code : (c : Context) (t : Option ValType) (code : Code) (w : ℕ → Bool) (T : Node → ValType) → BodyCode c t code
+    → TypesLive c T (marked w 0 code) 0 [] → Typed c T (c.result ∷ []) t (marked w 0 code) 0 []
 typed_code c t code w T k ty =
     typed_of c k.numbers T (c.result ∷ []) t (marked w 0 code) 0 [] [] (by_kind w 0 code) (subst IsIntegerCode (sym (unmarked-marked w 0 code)) k.integer) tt refl
     (subst (λ z. Leads c (c.result ∷ []) z [] (values_of t)) (sym (unmarked-marked w 0 code)) k.leads) ty
 
-pub code_leads : (c : Context) (t : Option ValType) (code : Code) (w : ℕ → Bool) (K P : Node → Bool) (T : Node → ValType) → BodyCode c t code → TypesLive c T (marked w 0 code) 0 []
+pub code_leads : (c : Context) (t : Option ValType) (code : Code) (w : ℕ → Bool) (K P : Node → Bool) (T : Node → ValType) → BodyCode c t code
+    → TypesLive c T (marked w 0 code) 0 []
     → HoldsNeeded (callees c.inside) (body_sites (callees c.inside) (length c.result) (marked w 0 code)) (body_ends (callees c.inside) (length c.result) (marked w 0 code)) K P
     → Leads c (c.result ∷ []) (unmarked (cut_body (callees c.inside) K P T t (marked w 0 code))) [] (values_of t)
 code_leads c t code w K P T k ty has =

@@ -34,13 +34,18 @@ bytes c = length (canon_code (unmarked c))
 bytes-one : (i : Instr) (rest : Code) → length (canon_code (one i rest)) ≡ length (canon_plain i) + length (canon_code rest)
 bytes-one i rest = length-append (canon_plain i) (canon_code rest)
 
-bytes-block : (kind : Option ValType) (inner rest : Code) → length (canon_code (block kind inner rest)) ≡ 3 + length (canon_code inner) + length (canon_code rest)
-bytes-block kind inner rest = omega (arith, length-append (0x02 ∷ kind_byte kind ∷ canon_code inner ++ 0x0B ∷ []) (canon_code rest), length-append (canon_code inner) (0x0B ∷ []))
+bytes-block : (kind : Option ValType) (inner rest : Code)
+    → length (canon_code (block kind inner rest)) ≡ 3 + length (canon_code inner) + length (canon_code rest)
+bytes-block kind inner rest =
+    omega (arith, length-append (0x02 ∷ kind_byte kind ∷ canon_code inner ++ 0x0B ∷ []) (canon_code rest), length-append (canon_code inner) (0x0B ∷ []))
 
-bytes-loop : (kind : Option ValType) (inner rest : Code) → length (canon_code (repeat kind inner rest)) ≡ 3 + length (canon_code inner) + length (canon_code rest)
-bytes-loop kind inner rest = omega (arith, length-append (0x03 ∷ kind_byte kind ∷ canon_code inner ++ 0x0B ∷ []) (canon_code rest), length-append (canon_code inner) (0x0B ∷ []))
+bytes-loop : (kind : Option ValType) (inner rest : Code)
+    → length (canon_code (repeat kind inner rest)) ≡ 3 + length (canon_code inner) + length (canon_code rest)
+bytes-loop kind inner rest =
+    omega (arith, length-append (0x03 ∷ kind_byte kind ∷ canon_code inner ++ 0x0B ∷ []) (canon_code rest), length-append (canon_code inner) (0x0B ∷ []))
 
-bytes-if : (kind : Option ValType) (x y rest : Code) → length (canon_code (branch kind x y rest)) ≡ 3 + length (canon_code x) + length (else_part (canon_code y)) + length (canon_code rest)
+bytes-if : (kind : Option ValType) (x y rest : Code)
+    → length (canon_code (branch kind x y rest)) ≡ 3 + length (canon_code x) + length (else_part (canon_code y)) + length (canon_code rest)
 bytes-if kind x y rest =
     omega (arith, length-append (0x04 ∷ kind_byte kind ∷ canon_code x ++ (else_part (canon_code y) ++ 0x0B ∷ [])) (canon_code rest), length-append (canon_code x) (else_part (canon_code y) ++ 0x0B ∷ []), length-append (else_part (canon_code y)) (0x0B ∷ []))
 
@@ -91,11 +96,16 @@ pick_within : (b : Bool) (x y : Marked) (n : ℕ) → bytes x ≤ n → bytes y 
 pick_within true x y n a b = a
 pick_within false x y n a b = b
 
-transfer : (P : Node → Bool) (t : Option ValType) (b : Bool) (x : Marked) (names : List Node) (n : ℕ) → bytes x ≤ n → 1 ≤ n → bytes (pick b x (drops (shown P names) (zeros t End))) ≤ 3 * n + shown P names
-transfer P t b x names n le ge = let g = bytes-drops (shown P names) (zeros t End) in let z = bytes-zeros t in pick_within b x (drops (shown P names) (zeros t End)) (3 * n + shown P names) (omega arith) (omega arith)
+transfer : (P : Node → Bool) (t : Option ValType) (b : Bool) (x : Marked) (names : List Node) (n : ℕ) → bytes x ≤ n → 1 ≤ n
+    → bytes (pick b x (drops (shown P names) (zeros t End))) ≤ 3 * n + shown P names
+transfer P t b x names n le ge =
+    let g = bytes-drops (shown P names) (zeros t End) in
+    let z = bytes-zeros t in
+    pick_within b x (drops (shown P names) (zeros t End)) (3 * n + shown P names) (omega arith) (omega arith)
 
 -- A drop is a byte, and is paid by the position that made the place.
-pub bytes-cut : (cs : Callees) (K P : Node → Bool) (T : Node → ValType) (t : Option ValType) (c : Marked) (p : ℕ) (names : List Node) → bytes (cut cs K P T t c p names) ≤ 3 * bytes c + shown P names
+pub bytes-cut : (cs : Callees) (K P : Node → Bool) (T : Node → ValType) (t : Option ValType) (c : Marked) (p : ℕ) (names : List Node)
+    → bytes (cut cs K P T t c p names) ≤ 3 * bytes c + shown P names
 bytes-cut cs K P T t End p names = omega arith
 bytes-cut cs K P T t (Do m op rest) p names =
     let d = cut cs K P T t rest (p + 1) (made cs p op names) in
@@ -146,7 +156,8 @@ bytes-cut cs K P T t (If m kind x y rest) p names =
     let i = bytes-if kind (unmarked x) (unmarked y) (unmarked rest) in
     let j = bytes-if kind (unmarked in_x) (unmarked in_y) (unmarked d) in
     pick_within (K (At p)) (If m kind in_x in_y d) (drops (shown P (take 1 names)) (filler P kind (Join p) d)) (3 * bytes (If m kind x y rest) + shown P names) (omega arith) (omega arith)
-bytes-cut cs K P T t (Br m l rest) p names = transfer P t (K (At p)) (Br m l End) names (bytes (Br m l rest)) (bytes-lone (instr.Br l) (unmarked rest)) (bytes-some (instr.Br l) (unmarked rest))
+bytes-cut cs K P T t (Br m l rest) p names =
+    transfer P t (K (At p)) (Br m l End) names (bytes (Br m l rest)) (bytes-lone (instr.Br l) (unmarked rest)) (bytes-some (instr.Br l) (unmarked rest))
 bytes-cut cs K P T t (BrIf m l rest) p names =
     let d = cut cs K P T t rest (p + 1) (drop 1 names) in
     let a = bytes-cut cs K P T t rest (p + 1) (drop 1 names) in
@@ -155,11 +166,15 @@ bytes-cut cs K P T t (BrIf m l rest) p names =
     let i = bytes-one (instr.BrIf l) (unmarked rest) in
     let j = bytes-one (instr.BrIf l) (unmarked d) in
     pick_within (K (At p)) (BrIf m l d) (drops (shown P (take 1 names)) d) (3 * bytes (BrIf m l rest) + shown P names) (omega arith) (omega arith)
-bytes-cut cs K P T t (BrTable m labels other rest) p names = transfer P t (K (At p)) (BrTable m labels other End) names (bytes (BrTable m labels other rest)) (bytes-lone (instr.BrTable labels other) (unmarked rest)) (bytes-some (instr.BrTable labels other) (unmarked rest))
-bytes-cut cs K P T t (Return m rest) p names = transfer P t (K (At p)) (Return m End) names (bytes (Return m rest)) (bytes-lone instr.Return (unmarked rest)) (bytes-some instr.Return (unmarked rest))
-bytes-cut cs K P T t (Unreachable m rest) p names = transfer P t (K (At p)) (Unreachable m End) names (bytes (Unreachable m rest)) (bytes-lone instr.Unreachable (unmarked rest)) (bytes-some instr.Unreachable (unmarked rest))
+bytes-cut cs K P T t (BrTable m labels other rest) p names =
+    transfer P t (K (At p)) (BrTable m labels other End) names (bytes (BrTable m labels other rest)) (bytes-lone (instr.BrTable labels other) (unmarked rest)) (bytes-some (instr.BrTable labels other) (unmarked rest))
+bytes-cut cs K P T t (Return m rest) p names =
+    transfer P t (K (At p)) (Return m End) names (bytes (Return m rest)) (bytes-lone instr.Return (unmarked rest)) (bytes-some instr.Return (unmarked rest))
+bytes-cut cs K P T t (Unreachable m rest) p names =
+    transfer P t (K (At p)) (Unreachable m End) names (bytes (Unreachable m rest)) (bytes-lone instr.Unreachable (unmarked rest)) (bytes-some instr.Unreachable (unmarked rest))
 
-pub cut_is_small : (cs : Callees) (K P : Node → Bool) (T : Node → ValType) (t : Option ValType) (w : ℕ → Bool) (c : Code) → length (canon_code (unmarked (cut_body cs K P T t (marked w 0 c)))) ≤ 3 * length (canon_code c)
+pub cut_is_small : (cs : Callees) (K P : Node → Bool) (T : Node → ValType) (t : Option ValType) (w : ℕ → Bool) (c : Code)
+    → length (canon_code (unmarked (cut_body cs K P T t (marked w 0 c)))) ≤ 3 * length (canon_code c)
 cut_is_small cs K P T t w c =
     let a = bytes-cut cs K P T t (marked w 0 c) 0 [] in
     let e = ap (λ z. length (canon_code z)) (unmarked-marked w 0 c) in
@@ -195,13 +210,16 @@ each_in f (y ∷ xs) (suc k) x at = omega (arith, each_in f xs k x at, length-ap
 
 list_long : {A : Type 0} (id : ℕ) (f : A → List ℕ) (xs : List A) → length (canon_each f xs) ≤ length (canon_list id f xs)
 list_long id f [] = omega arith
-list_long id f (x ∷ xs) = omega (arith, length-append (shortest_u32 (length (x ∷ xs))) (canon_each f (x ∷ xs)), length-append (shortest_u32 (length (canon_counted f (x ∷ xs)))) (canon_counted f (x ∷ xs)))
+list_long id f (x ∷ xs) =
+    omega (arith, length-append (shortest_u32 (length (x ∷ xs))) (canon_each f (x ∷ xs)), length-append (shortest_u32 (length (canon_counted f (x ∷ xs)))) (canon_counted f (x ∷ xs)))
 
 list_short : {A : Type 0} (id : ℕ) (f : A → List ℕ) (xs : List A) → length (canon_list id f xs) ≤ 11 + length (canon_each f xs)
 list_short id f [] = omega arith
-list_short id f (x ∷ xs) = omega (arith, sized_short (canon_counted f (x ∷ xs)), length-append (shortest_u32 (length (x ∷ xs))) (canon_each f (x ∷ xs)), short_u32 (length (x ∷ xs)))
+list_short id f (x ∷ xs) =
+    omega (arith, sized_short (canon_counted f (x ∷ xs)), length-append (shortest_u32 (length (x ∷ xs))) (canon_each f (x ∷ xs)), short_u32 (length (x ∷ xs)))
 
-list_push : {A : Type 0} (id : ℕ) (f : A → List ℕ) (xs : List A) (x : A) → length (canon_list id f (xs ++ x ∷ [])) ≤ 11 + length (f x) + length (canon_list id f xs)
+list_push : {A : Type 0} (id : ℕ) (f : A → List ℕ) (xs : List A) (x : A)
+    → length (canon_list id f (xs ++ x ∷ [])) ≤ 11 + length (f x) + length (canon_list id f xs)
 list_push id f xs x = omega (arith, list_short id f (xs ++ x ∷ []), each_push f xs x, list_long id f xs)
 
 -- ---- the module
@@ -223,7 +241,8 @@ export_size name n = omega (arith, length-append (canon_name name) (export_byte 
 entry_long : (b : Body) → length (canon_body b) ≤ length (canon_entry b)
 entry_long b = omega (arith, length-append (shortest_u32 (length (canon_body b))) (canon_body b))
 
-pub appended_size : (m : Module) (type f : ℕ) (old : Body) (code : List Instr) (name : Name) → slice_get m.bodies f ≡ Some old → length (canon_code (code_of code)) ≤ 4 * length (canon_code (code_of old.code))
+pub appended_size : (m : Module) (type f : ℕ) (old : Body) (code : List Instr) (name : Name) → slice_get m.bodies f ≡ Some old
+    → length (canon_code (code_of code)) ≤ 4 * length (canon_code (code_of old.code))
     → length (canon (appended m type (record old { code = code }) name)) ≤ 5 * length (canon m) + length name.bytes + 64
 appended_size m type f old code name is le =
     omega (

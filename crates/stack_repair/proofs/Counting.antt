@@ -98,8 +98,17 @@ pick_within : (b : Bool) (x y : Marked) (n : ℕ) → size x ≤ n → size y �
 pick_within true x y n a b = a
 pick_within false x y n a b = b
 
+-- a transfer that stays, or falls through
+unkept : (P : Node → Bool) (t : Option ValType) (b : Bool) (x : Marked) (names : List Node) (n : ℕ) → size x ≤ n → 1 ≤ n
+    → size (pick b x (drops (shown P names) (zeros t End))) ≤ 2 * n + shown P names
+unkept P t b x names n le ge =
+    let g = size-drops (shown P names) (zeros t End) in
+    let z = size-zeros t in
+    pick_within b x (drops (shown P names) (zeros t End)) (2 * n + shown P names) (omega arith) (omega arith)
+
 -- A drop is paid by the position that made the place.
-pub size-cut : (cs : Callees) (K P : Node → Bool) (T : Node → ValType) (t : Option ValType) (c : Marked) (p : ℕ) (names : List Node) → size (cut cs K P T t c p names) ≤ 2 * size c + shown P names
+pub size-cut : (cs : Callees) (K P : Node → Bool) (T : Node → ValType) (t : Option ValType) (c : Marked) (p : ℕ) (names : List Node)
+    → size (cut cs K P T t c p names) ≤ 2 * size c + shown P names
 size-cut cs K P T t End p names = omega arith
 size-cut cs K P T t (Do m op rest) p names =
     let d = cut cs K P T t rest (p + 1) (made cs p op names) in
@@ -141,25 +150,22 @@ size-cut cs K P T t (If m kind x y rest) p names =
     let i = shown-split P 1 names in
     let h = size-filler P kind (Join p) d in
     pick_within (K (At p)) (If m kind in_x in_y d) (drops (shown P (take 1 names)) (filler P kind (Join p) d)) (2 * size (If m kind x y rest) + shown P names) (omega arith) (omega arith)
-size-cut cs K P T t (Br m l rest) p names =
-    let g = size-drops (shown P names) (zeros t End) in let z = size-zeros t in pick_within (K (At p)) (Br m l End) (drops (shown P names) (zeros t End)) (2 * size (Br m l rest) + shown P names) (omega arith) (omega arith)
+size-cut cs K P T t (Br m l rest) p names = unkept P t (K (At p)) (Br m l End) names (size (Br m l rest)) (omega arith) (omega arith)
 size-cut cs K P T t (BrIf m l rest) p names =
     let d = cut cs K P T t rest (p + 1) (drop 1 names) in
     let a = size-cut cs K P T t rest (p + 1) (drop 1 names) in
     let g = size-drops (shown P (take 1 names)) d in
     let i = shown-split P 1 names in
     pick_within (K (At p)) (BrIf m l d) (drops (shown P (take 1 names)) d) (2 * size (BrIf m l rest) + shown P names) (omega arith) (omega arith)
-size-cut cs K P T t (BrTable m labels other rest) p names =
-    let g = size-drops (shown P names) (zeros t End) in let z = size-zeros t in pick_within (K (At p)) (BrTable m labels other End) (drops (shown P names) (zeros t End)) (2 * size (BrTable m labels other rest) + shown P names) (omega arith) (omega arith)
-size-cut cs K P T t (Return m rest) p names =
-    let g = size-drops (shown P names) (zeros t End) in let z = size-zeros t in pick_within (K (At p)) (Return m End) (drops (shown P names) (zeros t End)) (2 * size (Return m rest) + shown P names) (omega arith) (omega arith)
-size-cut cs K P T t (Unreachable m rest) p names =
-    let g = size-drops (shown P names) (zeros t End) in let z = size-zeros t in pick_within (K (At p)) (Unreachable m End) (drops (shown P names) (zeros t End)) (2 * size (Unreachable m rest) + shown P names) (omega arith) (omega arith)
+size-cut cs K P T t (BrTable m labels other rest) p names = unkept P t (K (At p)) (BrTable m labels other End) names (size (BrTable m labels other rest)) (omega arith) (omega arith)
+size-cut cs K P T t (Return m rest) p names = unkept P t (K (At p)) (Return m End) names (size (Return m rest)) (omega arith) (omega arith)
+size-cut cs K P T t (Unreachable m rest) p names = unkept P t (K (At p)) (Unreachable m End) names (size (Unreachable m rest)) (omega arith) (omega arith)
 
 size-marked : (w : ℕ → Bool) (c : Code) → size (marked w 0 c) ≡ count c
 size-marked w c = sym (count-unmarked (marked w 0 c)) ∙ ap count (unmarked-marked w 0 c)
 
-pub cut_is_short : (cs : Callees) (K P : Node → Bool) (T : Node → ValType) (t : Option ValType) (w : ℕ → Bool) (c : Code) → count (unmarked (cut_body cs K P T t (marked w 0 c))) ≤ 2 * count c
+pub cut_is_short : (cs : Callees) (K P : Node → Bool) (T : Node → ValType) (t : Option ValType) (w : ℕ → Bool) (c : Code)
+    → count (unmarked (cut_body cs K P T t (marked w 0 c))) ≤ 2 * count c
 cut_is_short cs K P T t w c =
     let a = count-unmarked (cut_body cs K P T t (marked w 0 c)) in
     let b = size-cut cs K P T t (marked w 0 c) 0 [] in
@@ -188,7 +194,15 @@ pick_nests : (b : Bool) (x y : Marked) (n : ℕ) → nest (unmarked x) ≤ n →
 pick_nests true x y n a b = a
 pick_nests false x y n a b = b
 
-pub nest-cut : (cs : Callees) (K P : Node → Bool) (T : Node → ValType) (t : Option ValType) (c : Marked) (p : ℕ) (names : List Node) → nest (unmarked (cut cs K P T t c p names)) ≤ nest (unmarked c)
+unkept_nests : (P : Node → Bool) (t : Option ValType) (b : Bool) (x : Marked) (names : List Node) (n : ℕ) → nest (unmarked x) ≤ n
+    → nest (unmarked (pick b x (drops (shown P names) (zeros t End)))) ≤ n
+unkept_nests P t b x names n le =
+    let g = nest-drops (shown P names) (zeros t End) in
+    let z = nest-zeros t in
+    pick_nests b x (drops (shown P names) (zeros t End)) n le (omega arith)
+
+pub nest-cut : (cs : Callees) (K P : Node → Bool) (T : Node → ValType) (t : Option ValType) (c : Marked) (p : ℕ) (names : List Node)
+    → nest (unmarked (cut cs K P T t c p names)) ≤ nest (unmarked c)
 nest-cut cs K P T t End p names = omega arith
 nest-cut cs K P T t (Do m op rest) p names =
     let d = cut cs K P T t rest (p + 1) (made cs p op names) in
@@ -220,17 +234,18 @@ nest-cut cs K P T t (If m kind x y rest) p names =
     let g = nest-drops (shown P (take 1 names)) (filler P kind (Join p) d) in
     let h = nest-filler P kind (Join p) d in
     pick_nests (K (At p)) (If m kind in_x in_y d) (drops (shown P (take 1 names)) (filler P kind (Join p) d)) (nest (unmarked (If m kind x y rest))) (omega arith) (omega arith)
-nest-cut cs K P T t (Br m l rest) p names = let g = nest-drops (shown P names) (zeros t End) in let z = nest-zeros t in pick_nests (K (At p)) (Br m l End) (drops (shown P names) (zeros t End)) (nest (unmarked (Br m l rest))) (omega arith) (omega arith)
+nest-cut cs K P T t (Br m l rest) p names = unkept_nests P t (K (At p)) (Br m l End) names (nest (unmarked (Br m l rest))) (omega arith)
 nest-cut cs K P T t (BrIf m l rest) p names =
     let d = cut cs K P T t rest (p + 1) (drop 1 names) in
     let a = nest-cut cs K P T t rest (p + 1) (drop 1 names) in
     let g = nest-drops (shown P (take 1 names)) (cut cs K P T t rest (p + 1) (drop 1 names)) in
     pick_nests (K (At p)) (BrIf m l d) (drops (shown P (take 1 names)) d) (nest (unmarked (BrIf m l rest))) a (omega arith)
-nest-cut cs K P T t (BrTable m labels other rest) p names = let g = nest-drops (shown P names) (zeros t End) in let z = nest-zeros t in pick_nests (K (At p)) (BrTable m labels other End) (drops (shown P names) (zeros t End)) (nest (unmarked (BrTable m labels other rest))) (omega arith) (omega arith)
-nest-cut cs K P T t (Return m rest) p names = let g = nest-drops (shown P names) (zeros t End) in let z = nest-zeros t in pick_nests (K (At p)) (Return m End) (drops (shown P names) (zeros t End)) (nest (unmarked (Return m rest))) (omega arith) (omega arith)
-nest-cut cs K P T t (Unreachable m rest) p names = let g = nest-drops (shown P names) (zeros t End) in let z = nest-zeros t in pick_nests (K (At p)) (Unreachable m End) (drops (shown P names) (zeros t End)) (nest (unmarked (Unreachable m rest))) (omega arith) (omega arith)
+nest-cut cs K P T t (BrTable m labels other rest) p names = unkept_nests P t (K (At p)) (BrTable m labels other End) names (nest (unmarked (BrTable m labels other rest))) (omega arith)
+nest-cut cs K P T t (Return m rest) p names = unkept_nests P t (K (At p)) (Return m End) names (nest (unmarked (Return m rest))) (omega arith)
+nest-cut cs K P T t (Unreachable m rest) p names = unkept_nests P t (K (At p)) (Unreachable m End) names (nest (unmarked (Unreachable m rest))) (omega arith)
 
-pub cut_nests_no_deeper : (cs : Callees) (K P : Node → Bool) (T : Node → ValType) (t : Option ValType) (w : ℕ → Bool) (c : Code) → nest (unmarked (cut_body cs K P T t (marked w 0 c))) ≤ nest c
+pub cut_nests_no_deeper : (cs : Callees) (K P : Node → Bool) (T : Node → ValType) (t : Option ValType) (w : ℕ → Bool) (c : Code)
+    → nest (unmarked (cut_body cs K P T t (marked w 0 c))) ≤ nest c
 cut_nests_no_deeper cs K P T t w c =
     let a = nest-cut cs K P T t (marked w 0 c) 0 [] in
     let e = ap nest (unmarked-marked w 0 c) in

@@ -33,7 +33,8 @@ shown_types P T (d ∷ names) = keep (P d) (T d) (shown_types P T names)
 -- nothing is asked.
 abbrev pub Shows : Callees → (K P : Node → Bool) → List ℕ → ℕ → Marked → ℕ → List Node → Type 0
 Shows cs K P ls t End p names = AllIn P t names
-Shows cs K P ls t (Do m op rest) p names = (K (At p) ≡ true → AllIn P (takes cs op) names × (P (At p) ≡ true)) × Shows cs K P ls t rest (p + 1) (made cs p op names)
+Shows cs K P ls t (Do m op rest) p names =
+    (K (At p) ≡ true → AllIn P (takes cs op) names × (P (At p) ≡ true)) × Shows cs K P ls t rest (p + 1) (made cs p op names)
 Shows cs K P ls t (Block m kind body rest) p names =
     (K (At p) ≡ true → (P (Join p) ≡ true) × Shows cs K P (arity kind ∷ ls) (arity kind) body (p + 1) []) × Shows cs K P ls t rest (p + 1 + size body) (named (arity kind) (Join p) names)
 Shows cs K P ls t (Loop m kind body rest) p names =
@@ -57,7 +58,8 @@ pub record Labelled (ls : List ℕ) (Ls : List (List ValType)) (res : List ValTy
 some_is : {x y : List ValType} → Some x ≡ Some y → x ≡ y
 some_is e = cc
 
-pub label_more : (ls : List ℕ) (Ls : List (List ValType)) (res : List ValType) (n : ℕ) (t : List ValType) → n ≡ length t → Labelled ls Ls res → Labelled (n ∷ ls) (t ∷ Ls) res
+pub label_more : (ls : List ℕ) (Ls : List (List ValType)) (res : List ValType) (n : ℕ) (t : List ValType) → n ≡ length t → Labelled ls Ls res
+    → Labelled (n ∷ ls) (t ∷ Ls) res
 label_more ls Ls res n t e h = record {
   at = go;
   outer = λ x. h.outer n;
@@ -81,27 +83,34 @@ arity-values (Some k) = refl
 
 -- ---- present operands
 
-shown_first : (P : Node → Bool) (T : Node → ValType) (n : ℕ) (names : List Node) → AllIn P n names → shown_types P T names ≡ map T (take n names) ++ shown_types P T (drop n names)
+shown_first : (P : Node → Bool) (T : Node → ValType) (n : ℕ) (names : List Node) → AllIn P n names
+    → shown_types P T names ≡ map T (take n names) ++ shown_types P T (drop n names)
 shown_first P T zero names a = refl
 shown_first P T (suc n) [] a = absurd a
 shown_first P T (suc n) (d ∷ names) a = ap (λ b. keep b (T d) (shown_types P T names)) a.0 ∙ ap (λ z. T d ∷ z) (shown_first P T n names a.1)
 
-shown_carries : (P : Node → Bool) (T : Node → ValType) (n : ℕ) (s : List ValType) (names : List Node) → n ≡ length s → Carries T s names → AllIn P n names → shown_types P T names ≡ s ++ shown_types P T (drop (length s) names)
-shown_carries P T n s names e c a = shown_first P T (length s) names (subst (λ z. AllIn P z names) e a) ∙ ap (λ z. z ++ shown_types P T (drop (length s) names)) c
+shown_carries : (P : Node → Bool) (T : Node → ValType) (n : ℕ) (s : List ValType) (names : List Node) → n ≡ length s → Carries T s names → AllIn P n names
+    → shown_types P T names ≡ s ++ shown_types P T (drop (length s) names)
+shown_carries P T n s names e c a =
+    shown_first P T (length s) names (subst (λ z. AllIn P z names) e a) ∙ ap (λ z. z ++ shown_types P T (drop (length s) names)) c
 
-shown_test : (P : Node → Bool) (T : Node → ValType) (n : ℕ) (names : List Node) → HasTest T names → AllIn P (suc n) names → (shown_types P T names ≡ I32 ∷ shown_types P T (drop 1 names)) × AllIn P n (drop 1 names)
+shown_test : (P : Node → Bool) (T : Node → ValType) (n : ℕ) (names : List Node) → HasTest T names → AllIn P (suc n) names
+    → (shown_types P T names ≡ I32 ∷ shown_types P T (drop 1 names)) × AllIn P n (drop 1 names)
 shown_test P T n [] h a = absurd h
 shown_test P T n (d ∷ names) h a = (ap (λ b. keep b (T d) (shown_types P T names)) a.0 ∙ ap (λ z. z ∷ shown_types P T names) h, a.1)
 
-shown_made : (P : Node → Bool) (T : Node → ValType) (k : ℕ) (d : Node) (names : List Node) → P d ≡ true → shown_types P T (named k d names) ≡ map T (named k d []) ++ shown_types P T names
+shown_made : (P : Node → Bool) (T : Node → ValType) (k : ℕ) (d : Node) (names : List Node) → P d ≡ true
+    → shown_types P T (named k d names) ≡ map T (named k d []) ++ shown_types P T names
 shown_made P T zero d names e = refl
 shown_made P T (suc k) d names e = ap (λ b. keep b (T d) (shown_types P T names)) e
 
-shown_kind : (P : Node → Bool) (T : Node → ValType) (kind : Option ValType) (d : Node) (names : List Node) → HasKind T kind d → P d ≡ true → shown_types P T (named (arity kind) d names) ≡ values_of kind ++ shown_types P T names
+shown_kind : (P : Node → Bool) (T : Node → ValType) (kind : Option ValType) (d : Node) (names : List Node) → HasKind T kind d → P d ≡ true
+    → shown_types P T (named (arity kind) d names) ≡ values_of kind ++ shown_types P T names
 shown_kind P T None d names h e = refl
 shown_kind P T (Some k) d names h e = ap (λ b. keep b (T d) (shown_types P T names)) e ∙ ap (λ z. z ∷ shown_types P T names) h
 
-shown_end : (P : Node → Bool) (T : Node → ValType) (t : Option ValType) (names : List Node) → map T names ≡ values_of t → AllIn P (arity t) names → shown_types P T names ≡ values_of t
+shown_end : (P : Node → Bool) (T : Node → ValType) (t : Option ValType) (names : List Node) → map T names ≡ values_of t → AllIn P (arity t) names
+    → shown_types P T names ≡ values_of t
 shown_end P T None [] e a = refl
 shown_end P T None (d ∷ names) e a = absurd cc
 shown_end P T (Some k) [] e a = absurd cc
@@ -118,18 +127,21 @@ module _ (c : Context) (Ls : List (List ValType)) where
   one_drop : (k : Marked) (t : ValType) (s s' : List ValType) → From k s s' → From (Do false Drop k) (t ∷ s) s'
   one_drop k t s s' h = (s, (t ∷ [], [], s, (t, (refl, refl)), refl, refl), h)
 
-  drops_more : (P : Node → Bool) (b : Bool) (k : Marked) (t : ValType) (n : ℕ) (s s' : List ValType) → From (drops n k) s s' → From (drops (one_more b n) k) (keep b t s) s'
+  drops_more : (P : Node → Bool) (b : Bool) (k : Marked) (t : ValType) (n : ℕ) (s s' : List ValType) → From (drops n k) s s'
+      → From (drops (one_more b n) k) (keep b t s) s'
   drops_more P true k t n s s' h = one_drop (drops n k) t s s' h
   drops_more P false k t n s s' h = h
 
   -- the present among the first n go
-  drops_first : (P : Node → Bool) (T : Node → ValType) (k : Marked) (n : ℕ) (names : List Node) (s' : List ValType) → From k (shown_types P T (drop n names)) s' → From (drops (shown P (take n names)) k) (shown_types P T names) s'
+  drops_first : (P : Node → Bool) (T : Node → ValType) (k : Marked) (n : ℕ) (names : List Node) (s' : List ValType)
+      → From k (shown_types P T (drop n names)) s' → From (drops (shown P (take n names)) k) (shown_types P T names) s'
   drops_first P T k zero names s' h = h
   drops_first P T k (suc n) [] s' h = h
   drops_first P T k (suc n) (d ∷ names) s' h = drops_more P (P d) k (T d) (shown P (take n names)) (shown_types P T names) s' (drops_first P T k n names s' h)
 
   -- all present go
-  drops_all : (P : Node → Bool) (T : Node → ValType) (k : Marked) (names : List Node) (s' : List ValType) → From k [] s' → From (drops (shown P names) k) (shown_types P T names) s'
+  drops_all : (P : Node → Bool) (T : Node → ValType) (k : Marked) (names : List Node) (s' : List ValType) → From k [] s'
+      → From (drops (shown P names) k) (shown_types P T names) s'
   drops_all P T k [] s' h = h
   drops_all P T k (d ∷ names) s' h = drops_more P (P d) k (T d) (shown P names) (shown_types P T names) s' (drops_all P T k names s' h)
 
@@ -143,15 +155,18 @@ module _ (c : Context) (Ls : List (List ValType)) where
   zeros_end None i = refl
   zeros_end (Some k) i = one_zero End k [] (k ∷ []) i refl
 
-  pick_zero : (b : Bool) (k : Marked) (t u : ValType) (s s' : List ValType) → IsInteger t → u ≡ t → From k (keep b u s) s' → From (pick b (Do false (zero_const t) k) k) s s'
+  pick_zero : (b : Bool) (k : Marked) (t u : ValType) (s s' : List ValType) → IsInteger t → u ≡ t → From k (keep b u s) s'
+      → From (pick b (Do false (zero_const t) k) k) s s'
   pick_zero true k t u s s' i e h = one_zero k t s s' i (subst (λ z. From k (z ∷ s) s') e h)
   pick_zero false k t u s s' i e h = h
 
-  fill_kind : (P : Node → Bool) (T : Node → ValType) (kind : Option ValType) (d : Node) (k : Marked) (names : List Node) (s' : List ValType) → KindTyped T kind d → From k (shown_types P T (named (arity kind) d names)) s' → From (filler P kind d k) (shown_types P T names) s'
+  fill_kind : (P : Node → Bool) (T : Node → ValType) (kind : Option ValType) (d : Node) (k : Marked) (names : List Node) (s' : List ValType)
+      → KindTyped T kind d → From k (shown_types P T (named (arity kind) d names)) s' → From (filler P kind d k) (shown_types P T names) s'
   fill_kind P T None d k names s' h f = f
   fill_kind P T (Some t) d k names s' h f = pick_zero (P d) k t (T d) (shown_types P T names) s' h.0 h.1 f
 
-  fill_result : (P : Node → Bool) (T : Node → ValType) (n : ℕ) (d : Node) (k : Marked) (names : List Node) (s' : List ValType) → Integers (map T (named n d [])) → From k (shown_types P T (named n d names)) s' → From (filler P (result_of n (T d)) d k) (shown_types P T names) s'
+  fill_result : (P : Node → Bool) (T : Node → ValType) (n : ℕ) (d : Node) (k : Marked) (names : List Node) (s' : List ValType)
+      → Integers (map T (named n d [])) → From k (shown_types P T (named n d names)) s' → From (filler P (result_of n (T d)) d k) (shown_types P T names) s'
   fill_result P T zero d k names s' i f = f
   fill_result P T (suc n) d k names s' i f = pick_zero (P d) k (T d) (T d) (shown_types P T names) s' i.0 refl f
 
@@ -160,7 +175,8 @@ module _ (c : Context) (Ls : List (List ValType)) where
   either false x y s s' f g = g refl
 
   -- an unkept transfer
-  falls : (P : Node → Bool) (T : Node → ValType) (t : Option ValType) (names : List Node) → IsIntegerKind t → From (drops (shown P names) (zeros t End)) (shown_types P T names) (values_of t)
+  falls : (P : Node → Bool) (T : Node → ValType) (t : Option ValType) (names : List Node) → IsIntegerKind t
+      → From (drops (shown P names) (zeros t End)) (shown_types P T names) (values_of t)
   falls P T t names i = drops_all P T (zeros t End) names (values_of t) (zeros_end t i)
 
 -- ---- a sequence

@@ -47,10 +47,12 @@ module _ (Q : Instr → Type 0) (R : Option ValType → Type 0) (q_drop : Q Drop
   filler_every P None n c h = h
   filler_every P (Some t) n c h = pick_every (P n) (Do false (zero_const t) c) c (zero_every t, h) h
 
-  falls_every : (P : Node → Bool) (t : Option ValType) (b : Bool) (x : Marked) (names : List Node) → Marks x → Marks (pick b x (drops (shown P names) (zeros t End)))
+  falls_every : (P : Node → Bool) (t : Option ValType) (b : Bool) (x : Marked) (names : List Node) → Marks x
+      → Marks (pick b x (drops (shown P names) (zeros t End)))
   falls_every P t b x names h = pick_every b x (drops (shown P names) (zeros t End)) h (drops_every (shown P names) (zeros t End) (zeros_every t))
 
-  pub cut_every : (cs : Callees) (K P : Node → Bool) (T : Node → ValType) (t : Option ValType) (c : Marked) (p : ℕ) (names : List Node) → Marks c → Marks (cut cs K P T t c p names)
+  pub cut_every : (cs : Callees) (K P : Node → Bool) (T : Node → ValType) (t : Option ValType) (c : Marked) (p : ℕ) (names : List Node) → Marks c
+      → Marks (cut cs K P T t c p names)
   cut_every cs K P T t End p names h = tt
   cut_every cs K P T t (Do m op rest) p names h =
       let d = cut cs K P T t rest (p + 1) (made cs p op names) in
@@ -102,7 +104,8 @@ integer_every (block kind inner rest) h = (h.0, integer_every inner h.1, integer
 integer_every (repeat kind inner rest) h = (h.0, integer_every inner h.1, integer_every rest h.2)
 integer_every (branch kind x y rest) h = (h.0, integer_every x h.1, integer_every y h.2, integer_every rest h.3)
 
-pub cut_integer : (cs : Callees) (K P : Node → Bool) (T : Node → ValType) (t : Option ValType) (c : Marked) (p : ℕ) (names : List Node) → IsIntegerCode (unmarked c) → IsIntegerCode (unmarked (cut cs K P T t c p names))
+pub cut_integer : (cs : Callees) (K P : Node → Bool) (T : Node → ValType) (t : Option ValType) (c : Marked) (p : ℕ) (names : List Node)
+    → IsIntegerCode (unmarked c) → IsIntegerCode (unmarked (cut cs K P T t c p names))
 cut_integer cs K P T t c p names h = integer_every _ (cut_every IsIntegerInstr IsIntegerKind tt tt tt cs K P T t c p names (every_integer (unmarked c) h))
 
 -- ---- proper code
@@ -127,5 +130,7 @@ proper_every (block kind inner rest) h = (proper_every inner h.1, proper_every r
 proper_every (repeat kind inner rest) h = (proper_every inner h.1, proper_every rest h.2)
 proper_every (branch kind x y rest) h = (proper_every x h.1, proper_every y h.2, proper_every rest h.3)
 
-pub cut_proper : (cs : Callees) (K P : Node → Bool) (T : Node → ValType) (t : Option ValType) (c : Marked) (p : ℕ) (names : List Node) → ProperCode (unmarked c) → ProperCode (unmarked (cut cs K P T t c p names))
-cut_proper cs K P T t c p names h = proper_every _ (cut_every Proper AnyKind tt (omega arith) (omega arith) cs K P T t c p names (every_proper (unmarked c) h))
+pub cut_proper : (cs : Callees) (K P : Node → Bool) (T : Node → ValType) (t : Option ValType) (c : Marked) (p : ℕ) (names : List Node)
+    → ProperCode (unmarked c) → ProperCode (unmarked (cut cs K P T t c p names))
+cut_proper cs K P T t c p names h =
+    proper_every _ (cut_every Proper AnyKind tt (omega arith) (omega arith) cs K P T t c p names (every_proper (unmarked c) h))

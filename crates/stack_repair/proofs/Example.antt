@@ -19,7 +19,8 @@ use Rattle.flow_domain.specs.Cut.{cut_body}
 
 -- 0 local.get, 1 local.get, 2 add, 3 local.get, 4 if with result { 5 const 1 } { 6 const 2 }, 7 add, 8 local.get (kept), 9 add
 unfoldable code : Code
-code = one (LocalGet 0) (one (LocalGet 0) (one (Num (num.Bin W32 bin.Add)) (one (LocalGet 0) (branch (Some I32) (one (I32Const 1) done) (one (I32Const 2) done) (one (Num (num.Bin W32 bin.Add)) (one (LocalGet 1) (one (Num (num.Bin W32 bin.Add)) done)))))))
+code =
+    one (LocalGet 0) (one (LocalGet 0) (one (Num (num.Bin W32 bin.Add)) (one (LocalGet 0) (branch (Some I32) (one (I32Const 1) done) (one (I32Const 2) done) (one (Num (num.Bin W32 bin.Add)) (one (LocalGet 1) (one (Num (num.Bin W32 bin.Add)) done)))))))
 
 abbrev kept : Node → Bool
 kept (node.At p) = nat_eq p.0 8

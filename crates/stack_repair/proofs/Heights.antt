@@ -30,7 +30,8 @@ pub record Numbered (ls : List ℕ) (Ls : List (List ValType)) (res : List ValTy
 some_is : {x y : List ValType} → Some x ≡ Some y → x ≡ y
 some_is e = cc
 
-numbered_more : (ls : List ℕ) (Ls : List (List ValType)) (res : List ValType) (n : ℕ) (t : List ValType) → n ≡ length t → Numbered ls Ls res → Numbered (n ∷ ls) (t ∷ Ls) res
+numbered_more : (ls : List ℕ) (Ls : List (List ValType)) (res : List ValType) (n : ℕ) (t : List ValType) → n ≡ length t → Numbered ls Ls res
+    → Numbered (n ∷ ls) (t ∷ Ls) res
 numbered_more ls Ls res n t e h = record { at = go; outer = λ x. h.outer n; last = h.outer n }
   where
     go : (l : ℕ) (u : List ValType) → slice_get (t ∷ Ls) l ≡ Some u → HasLabel (n ∷ ls) l × (carried (n ∷ ls) l ≡ length u)
@@ -53,13 +54,15 @@ arity-few : (t : Option ValType) → arity t ≤ 1
 arity-few None = omega arith
 arity-few (Some t) = omega arith
 
-one_of : (ls : List (List ValType)) (s : List ValType) (labels : List ℕ) (other l : ℕ) → slice_get ls other ≡ Some s → All (λ k. slice_get ls k ≡ Some s) labels → OneOf labels other l → slice_get ls l ≡ Some s
+one_of : (ls : List (List ValType)) (s : List ValType) (labels : List ℕ) (other l : ℕ) → slice_get ls other ≡ Some s
+    → All (λ k. slice_get ls k ≡ Some s) labels → OneOf labels other l → slice_get ls l ≡ Some s
 one_of ls s [] other l at each e = ap (slice_get ls) e ∙ at
 one_of ls s (x ∷ labels) other l at each (inl e) = ap (slice_get ls) e ∙ All-head (λ k. slice_get ls k ≡ Some s) x labels each
 one_of ls s (x ∷ labels) other l at each (inr o) = one_of ls s labels other l at (All-tail (λ k. slice_get ls k ≡ Some s) x labels each) o
 
 module _ (c : Context) (T : Node → ValType) (W : Instr → Type 0) (typed : (op : Instr) (t l : List ValType) → Types c op t l → W op) where
-  pub shaped_of : (ls : List ℕ) (Ls : List (List ValType)) (t : Option ValType) (code : Marked) (p n : ℕ) (names : List Node) → n ≡ length names → Numbered ls Ls c.result → Typed c T Ls t code p names → Shaped (callees c.inside) W ls (arity t) code n
+  pub shaped_of : (ls : List ℕ) (Ls : List (List ValType)) (t : Option ValType) (code : Marked) (p n : ℕ) (names : List Node) → n ≡ length names
+      → Numbered ls Ls c.result → Typed c T Ls t code p names → Shaped (callees c.inside) W ls (arity t) code n
   shaped_of ls Ls t End p n names e lab ty = e ∙ sym (length-map names T) ∙ ap length ty ∙ sym (arity-values t)
   shaped_of ls Ls t (Do m op rest) p n names e lab ty =
       let cs = callees c.inside in
@@ -81,7 +84,8 @@ module _ (c : Context) (T : Node → ValType) (W : Instr → Type 0) (typed : (o
         shaped_of (arity kind ∷ ls) (values_of kind ∷ Ls) kind y (p + 1 + size x) 0 [] refl lab' ty.3,
         shaped_of ls Ls t rest (p + 1 + size x + size y) _ (named (arity kind) (Join p) (drop 1 names)) (omega (arith, length-named (arity kind) (Join p) (drop 1 names) (arity-few kind), length-drop 1 names)) lab ty.4,
       )
-  shaped_of ls Ls t (Br m l rest) p n names e lab (s, at, cr) = let a = lab.at l s at in let b = a.1 in let d = carries_long T s names cr in (a.0, omega arith)
+  shaped_of ls Ls t (Br m l rest) p n names e lab (s, at, cr) =
+      let a = lab.at l s at in let b = a.1 in let d = carries_long T s names cr in (a.0, omega arith)
   shaped_of ls Ls t (BrIf m l rest) p n names e lab (test, (s, at, cr), ty) =
       let a = lab.at l s at in
       let b = a.1 in
@@ -95,10 +99,12 @@ module _ (c : Context) (T : Node → ValType) (W : Instr → Type 0) (typed : (o
   shaped_of ls Ls t (Unreachable m rest) p n names e lab ty = tt
 
 -- what follows from W holds, too
-pub shaped_weaker : (cs : Callees) (W V : Instr → Type 0) → ((op : Instr) → W op → V op) → (ls : List ℕ) (t : ℕ) (code : Marked) (n : ℕ) → Shaped cs W ls t code n → Shaped cs V ls t code n
+pub shaped_weaker : (cs : Callees) (W V : Instr → Type 0) → ((op : Instr) → W op → V op) → (ls : List ℕ) (t : ℕ) (code : Marked) (n : ℕ)
+    → Shaped cs W ls t code n → Shaped cs V ls t code n
 shaped_weaker cs W V f ls t End n h = h
 shaped_weaker cs W V f ls t (Do m op rest) n h = (h.0, f op h.1, h.2, shaped_weaker cs W V f ls t rest _ h.3)
-shaped_weaker cs W V f ls t (Block m kind body rest) n h = (shaped_weaker cs W V f (arity kind ∷ ls) (arity kind) body 0 h.0, shaped_weaker cs W V f ls t rest _ h.1)
+shaped_weaker cs W V f ls t (Block m kind body rest) n h =
+    (shaped_weaker cs W V f (arity kind ∷ ls) (arity kind) body 0 h.0, shaped_weaker cs W V f ls t rest _ h.1)
 shaped_weaker cs W V f ls t (Loop m kind body rest) n h = (shaped_weaker cs W V f (0 ∷ ls) (arity kind) body 0 h.0, shaped_weaker cs W V f ls t rest _ h.1)
 shaped_weaker cs W V f ls t (If m kind x y rest) n h =
     (h.0, shaped_weaker cs W V f (arity kind ∷ ls) (arity kind) x 0 h.1, shaped_weaker cs W V f (arity kind ∷ ls) (arity kind) y 0 h.2, shaped_weaker cs W V f ls t rest _ h.3)
@@ -113,7 +119,8 @@ shaped_weaker cs W V f ls t (Unreachable m rest) n h = h
 pub record IsShown (cs : Callees) (S : Sites) (ends : List EndAt) (K P : Node → Bool) : Type 0 where
   pub kept : (n : Node) → K n ≡ true → P n ≡ true
   pub joined : (b : ℕ) → K (At b) ≡ true → P (Join b) ≡ true
-  pub taken : (p : ℕ) (s : Site) → IsSite S p s → K (At p) ≡ true → all_operands cs s.around s.head ≤ length s.names → AllIn P (all_operands cs s.around s.head) s.names
+  pub taken : (p : ℕ) (s : Site) → IsSite S p s → K (At p) ≡ true → all_operands cs s.around s.head ≤ length s.names
+      → AllIn P (all_operands cs s.around s.head) s.names
   pub ended : (e : EndAt) (b : ℕ) → Among ends e → e.owner ≡ Join b → length e.names ≡ e.count → K (At b) ≡ true → AllIn P e.count e.names
   pub body_end : (e : EndAt) → Among ends e → e.owner ≡ Exit → length e.names ≡ e.count → AllIn P e.count e.names
 

@@ -27,8 +27,10 @@ abbrev pub TypesLive : Context → (Node → ValType) → Marked → ℕ → Lis
 TypesLive c T End p names = Unit {0}
 TypesLive c T (Do m op rest) p names =
     let cs = callees c.inside in HasResultType c T op (take (takes cs op) names) (At p) × TypesLive c T rest (p + 1) (made cs p op names)
-TypesLive c T (Block m kind body rest) p names = HasKind T kind (Join p) × TypesLive c T body (p + 1) [] × TypesLive c T rest (p + 1 + size body) (named (arity kind) (Join p) names)
-TypesLive c T (Loop m kind body rest) p names = HasKind T kind (Join p) × TypesLive c T body (p + 1) [] × TypesLive c T rest (p + 1 + size body) (named (arity kind) (Join p) names)
+TypesLive c T (Block m kind body rest) p names =
+    HasKind T kind (Join p) × TypesLive c T body (p + 1) [] × TypesLive c T rest (p + 1 + size body) (named (arity kind) (Join p) names)
+TypesLive c T (Loop m kind body rest) p names =
+    HasKind T kind (Join p) × TypesLive c T body (p + 1) [] × TypesLive c T rest (p + 1 + size body) (named (arity kind) (Join p) names)
 TypesLive c T (If m kind x y rest) p names =
     HasKind T kind (Join p) × TypesLive c T x (p + 1) [] × TypesLive c T y (p + 1 + size x) [] × TypesLive c T rest (p + 1 + size x + size y) (named (arity kind) (Join p) (drop 1 names))
 TypesLive c T (BrIf m l rest) p names = TypesLive c T rest (p + 1) (drop 1 names)
@@ -41,7 +43,8 @@ kind_of T None n f = tt
 kind_of T (Some k) n f = f k refl
 
 module _ (c : Context) (S : Sites) (T : Node → ValType) (ty : TypesPlaces c S T) where
-  pub live_of : (code : Marked) (ctx : List Label) (k : Node) (p : ℕ) (names : List Node) → HasAt S p (sites (callees c.inside) ctx k code p names) → TypesLive c T code p names
+  pub live_of : (code : Marked) (ctx : List Label) (k : Node) (p : ℕ) (names : List Node) → HasAt S p (sites (callees c.inside) ctx k code p names)
+      → TypesLive c T code p names
   live_of End ctx k p names at = tt
   live_of (Do m op rest) ctx k p names at = ((λ v h. ty.left p _ op v at.0 refl h), live_of rest ctx k (p + 1) (made (callees c.inside) p op names) at.1)
   live_of (Block m kind body rest) ctx k p names at =
@@ -114,10 +117,13 @@ module _ (c : Context) (T : Node → ValType) where
   kind_there None n k h e = absurd cc
   kind_there (Some j) n k h e = let g : j ≡ k = cc in subst (λ z. T n ≡ z) g h
 
-  left_same : (op o : Instr) (k : ValType) (names : List Node) (p : ℕ) → DoHead op ≡ DoHead o → HasResultType c T op (take (takes (callees c.inside) op) names) (At p) → Types c o (map T (take (takes (callees c.inside) o) names)) (k ∷ []) → T (At p) ≡ k
+  left_same : (op o : Instr) (k : ValType) (names : List Node) (p : ℕ) → DoHead op ≡ DoHead o
+      → HasResultType c T op (take (takes (callees c.inside) op) names) (At p) → Types c o (map T (take (takes (callees c.inside) o) names)) (k ∷ [])
+      → T (At p) ≡ k
   left_same op o k names p e ty h = let g : o ≡ op = cc in ty k (subst (λ z. Types c z (map T (take (takes (callees c.inside) z) names)) (k ∷ [])) g h)
 
-  each_live : (code : Marked) (ctx : List Label) (k : Node) (p : ℕ) (names : List Node) → TypesLive c T code p names → EachTyped p (sites (callees c.inside) ctx k code p names)
+  each_live : (code : Marked) (ctx : List Label) (k : Node) (p : ℕ) (names : List Node) → TypesLive c T code p names
+      → EachTyped p (sites (callees c.inside) ctx k code p names)
   each_live End ctx k p names ty = tt
   each_live (Do m op rest) ctx k p names ty = (
     record { left = λ o v e h. left_same op o v names p e ty.0 h; result = λ v h. absurd h },
@@ -152,8 +158,10 @@ module _ (c : Context) (T : Node → ValType) where
             (each_append ys rs f e (omega (arith, length-sites cs y (L ∷ ctx) (Join p) f [])) (each_live y (L ∷ ctx) (Join p) f [] ty.2) (each_live rest ctx k e (named (arity kind) (Join p) (drop 1 names)) ty.3)),
       )
   each_live (Br m l rest) ctx k p names ty = (record { left = λ o v f h. absurd cc; result = λ v h. absurd h }, each_nones (size rest) (p + 1))
-  each_live (BrIf m l rest) ctx k p names ty = (record { left = λ o v f h. absurd cc; result = λ v h. absurd h }, each_live rest ctx k (p + 1) (drop 1 names) ty)
-  each_live (BrTable m labels other rest) ctx k p names ty = (record { left = λ o v f h. absurd cc; result = λ v h. absurd h }, each_nones (size rest) (p + 1))
+  each_live (BrIf m l rest) ctx k p names ty =
+      (record { left = λ o v f h. absurd cc; result = λ v h. absurd h }, each_live rest ctx k (p + 1) (drop 1 names) ty)
+  each_live (BrTable m labels other rest) ctx k p names ty =
+      (record { left = λ o v f h. absurd cc; result = λ v h. absurd h }, each_nones (size rest) (p + 1))
   each_live (Return m rest) ctx k p names ty = (record { left = λ o v f h. absurd cc; result = λ v h. absurd h }, each_nones (size rest) (p + 1))
   each_live (Unreachable m rest) ctx k p names ty = (record { left = λ o v f h. absurd cc; result = λ v h. absurd h }, each_nones (size rest) (p + 1))
 

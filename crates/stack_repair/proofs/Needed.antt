@@ -43,7 +43,8 @@ module _ (c : Context) (S : Sites) (ends : List EndAt) (K P : Node → Bool) (T 
   abbrev pub EndRule : ℕ → Marked → ℕ → List Node → Type 0
   EndRule n code p names = (ns : List Node) → end_names (callees c.inside) code p names ≡ Some ns → n ≤ length ns → AllIn P n ns
 
-  operands : (p n : ℕ) (s : Site) (names : List Node) → IsSite S p s → s.names ≡ names → all_operands (callees c.inside) s.around s.head ≡ n → n ≤ length names → K (At p) ≡ true → AllIn P n names
+  operands : (p n : ℕ) (s : Site) (names : List Node) → IsSite S p s → s.names ≡ names → all_operands (callees c.inside) s.around s.head ≡ n
+      → n ≤ length names → K (At p) ≡ true → AllIn P n names
   operands p n s names is en eo le on =
       all_first P n names le (λ d a. has d (operand p s is on (subst (λ z. AmongFirst (all_operands (callees c.inside) s.around s.head) z d) (sym en) (subst (λ z. AmongFirst z names d) (sym eo) a))))
 
@@ -52,7 +53,8 @@ module _ (c : Context) (S : Sites) (ends : List EndAt) (K P : Node → Bool) (T 
       let a = sub _ (among_end (Join p) n ns (end_names (callees c.inside) code q []) e) in all_first P n ns le (λ d f. has d (left p _ a refl on f))
 
   pub shows_of : (code : Marked) (ctx : List Label) (Ls : List (List ValType)) (k : Node) (t : Option ValType) (p : ℕ) (names : List Node)
-      → Labelled (arities ctx) Ls c.result → HasAt S p (sites (callees c.inside) ctx k code p names) → Typed c T Ls t code p names → EndRule (arity t) code p names → Sub (inner_ends (callees c.inside) code p names)
+      → Labelled (arities ctx) Ls c.result → HasAt S p (sites (callees c.inside) ctx k code p names) → Typed c T Ls t code p names
+      → EndRule (arity t) code p names → Sub (inner_ends (callees c.inside) code p names)
       → Shows (callees c.inside) K P (arities ctx) (arity t) code p names
   shows_of End ctx Ls k t p names lab at ty rule sub = rule names refl (end_long T t names ty)
   shows_of (Do m op rest) ctx Ls k t p names lab at ty rule sub = (

@@ -113,9 +113,12 @@ set_join p (Some k) T node.Exit = T node.Exit
 -- the types of the places of the code, and for other nodes those of T
 abbrev types_from : Context → Marked → ℕ → List Node → (Node → ValType) → Node → ValType
 types_from c End p names T = T
-types_from c (Do m op rest) p names T = let cs = callees c.inside in types_from c rest (p + 1) (made cs p op names) (set_at p (left_type c op (map T (take (takes cs op) names))) T)
-types_from c (Block m kind body rest) p names T = types_from c rest (p + 1 + size body) (named (arity kind) (Join p) names) (types_from c body (p + 1) [] (set_join p kind T))
-types_from c (Loop m kind body rest) p names T = types_from c rest (p + 1 + size body) (named (arity kind) (Join p) names) (types_from c body (p + 1) [] (set_join p kind T))
+types_from c (Do m op rest) p names T =
+    let cs = callees c.inside in types_from c rest (p + 1) (made cs p op names) (set_at p (left_type c op (map T (take (takes cs op) names))) T)
+types_from c (Block m kind body rest) p names T =
+    types_from c rest (p + 1 + size body) (named (arity kind) (Join p) names) (types_from c body (p + 1) [] (set_join p kind T))
+types_from c (Loop m kind body rest) p names T =
+    types_from c rest (p + 1 + size body) (named (arity kind) (Join p) names) (types_from c body (p + 1) [] (set_join p kind T))
 types_from c (If m kind x y rest) p names T =
     types_from c rest (p + 1 + size x + size y) (named (arity kind) (Join p) (drop 1 names)) (types_from c y (p + 1 + size x) [] (types_from c x (p + 1) [] (set_join p kind T)))
 types_from c (BrIf m l rest) p names T = types_from c rest (p + 1) (drop 1 names) T
@@ -165,7 +168,8 @@ set_join_same p (Some k) T node.Exit b = refl
 set_at_there : (p : ℕ) (k : ValType) (T : Node → ValType) → set_at p k T (At p) ≡ k
 set_at_there p k T = ap (λ z. if z then k else T (At p)) (eq-eqb p p refl)
 
-set_join_there : (p : ℕ) (kind : Option ValType) (T : Node → ValType) (T' : Node → ValType) → T' (Join p) ≡ set_join p kind T (Join p) → HasKind T' kind (Join p)
+set_join_there : (p : ℕ) (kind : Option ValType) (T : Node → ValType) (T' : Node → ValType) → T' (Join p) ≡ set_join p kind T (Join p)
+    → HasKind T' kind (Join p)
 set_join_there p None T T' e = tt
 set_join_there p (Some k) T T' e = e ∙ ap (λ z. if z then k else T (Join p)) (eq-eqb p p refl)
 
@@ -185,13 +189,15 @@ types_same c (BrTable m labels other rest) p names T n b = refl
 types_same c (Return m rest) p names T n b = refl
 types_same c (Unreachable m rest) p names T n b = refl
 
-map_same : (T T' : Node → ValType) (p k : ℕ) (names : List Node) → AllBefore p names → ((n : Node) → IsBefore p n → T' n ≡ T n) → map T' (take k names) ≡ map T (take k names)
+map_same : (T T' : Node → ValType) (p k : ℕ) (names : List Node) → AllBefore p names → ((n : Node) → IsBefore p n → T' n ≡ T n)
+    → map T' (take k names) ≡ map T (take k names)
 map_same T T' p zero names b e = refl
 map_same T T' p (suc k) [] b e = refl
 map_same T T' p (suc k) (n ∷ names) b e = ap₂ {A = ValType} {B = List ValType} (λ x xs. x ∷ xs) (e n b.0) (map_same T T' p k names b.1 e)
 
 -- Each T' that is that table on the code's own nodes and earlier ones types its places.
-typed_from : (c : Context) (code : Marked) (p e : ℕ) (names : List Node) (T T' : Node → ValType) → e ≡ p + size code → AllBefore p names → ((n : Node) → IsBefore e n → T' n ≡ types_from c code p names T n) → TypesLive c T' code p names
+typed_from : (c : Context) (code : Marked) (p e : ℕ) (names : List Node) (T T' : Node → ValType) → e ≡ p + size code → AllBefore p names
+    → ((n : Node) → IsBefore e n → T' n ≡ types_from c code p names T n) → TypesLive c T' code p names
 typed_from c End p e names T T' q b h = tt
 typed_from c (Do m op rest) p e names T T' q b h =
     let cs = callees c.inside in
@@ -237,7 +243,8 @@ typed_from c (If m kind x y rest) p e names T T' q b h =
       typed_from c rest g e names1 T3 T' (omega arith) (all_before_named g (arity kind) (Join p) (drop 1 names) (omega arith) (all_before_le p g (drop 1 names) (omega arith) (all_before_drop p 1 names b))) h,
     )
 typed_from c (Br m l rest) p e names T T' q b h = tt
-typed_from c (BrIf m l rest) p e names T T' q b h = typed_from c rest (p + 1) e (drop 1 names) T T' (omega arith) (all_before_le p (p + 1) (drop 1 names) (omega arith) (all_before_drop p 1 names b)) h
+typed_from c (BrIf m l rest) p e names T T' q b h =
+    typed_from c rest (p + 1) e (drop 1 names) T T' (omega arith) (all_before_le p (p + 1) (drop 1 names) (omega arith) (all_before_drop p 1 names b)) h
 typed_from c (BrTable m labels other rest) p e names T T' q b h = tt
 typed_from c (Return m rest) p e names T T' q b h = tt
 typed_from c (Unreachable m rest) p e names T T' q b h = tt
@@ -270,11 +277,13 @@ map_drop T T' (suc k) (n ∷ names) e = map_drop T T' k names (tail_is e)
     tail_is e = cc
 
 -- what an instruction leaves has one type
-left_once : (c : Context) (T T' : Node → ValType) (op : Instr) (k : ℕ) (d : Node) (operands : List Node) → map T operands ≡ map T' operands → Types c op (map T operands) (map T (named k d [])) → HasResultType c T' op operands d → map T (named k d []) ≡ map T' (named k d [])
+left_once : (c : Context) (T T' : Node → ValType) (op : Instr) (k : ℕ) (d : Node) (operands : List Node) → map T operands ≡ map T' operands
+    → Types c op (map T operands) (map T (named k d [])) → HasResultType c T' op operands d → map T (named k d []) ≡ map T' (named k d [])
 left_once c T T' op zero d operands e ty h = refl
 left_once c T T' op (suc k) d operands e ty h = ap (λ z. z ∷ []) (sym (h (T d) (subst (λ z. Types c op z (T d ∷ [])) e ty)))
 
-named_same : (T T' : Node → ValType) (k : ℕ) (d : Node) (names : List Node) → map T (named k d []) ≡ map T' (named k d []) → map T names ≡ map T' names → map T (named k d names) ≡ map T' (named k d names)
+named_same : (T T' : Node → ValType) (k : ℕ) (d : Node) (names : List Node) → map T (named k d []) ≡ map T' (named k d []) → map T names ≡ map T' names
+    → map T (named k d names) ≡ map T' (named k d names)
 named_same T T' zero d names e f = f
 named_same T T' (suc k) d names e f = ap₂ {A = ValType} {B = List ValType} (λ x xs. x ∷ xs) (ap top_of e) f
 
@@ -282,12 +291,14 @@ result_same : (T T' : Node → ValType) (k : ℕ) (d : Node) → map T (named k 
 result_same T T' zero d e = refl
 result_same T T' (suc k) d e = ap (λ z. Some (top_of z)) e
 
-kind_same : (T T' : Node → ValType) (kind : Option ValType) (d : Node) → HasKind T kind d → HasKind T' kind d → map T (named (arity kind) d []) ≡ map T' (named (arity kind) d [])
+kind_same : (T T' : Node → ValType) (kind : Option ValType) (d : Node) → HasKind T kind d → HasKind T' kind d
+    → map T (named (arity kind) d []) ≡ map T' (named (arity kind) d [])
 kind_same T T' None d e f = refl
 kind_same T T' (Some k) d e f = ap (λ z. z ∷ []) (e ∙ sym f)
 
 pub one_cut : (c : Context) (K P : Node → Bool) (T T' : Node → ValType) (ls : List (List ValType)) (t : Option ValType) (code : Marked) (p : ℕ) (names : List Node)
-    → Typed c T ls t code p names → TypesLive c T' code p names → map T names ≡ map T' names → cut (callees c.inside) K P T t code p names ≡ cut (callees c.inside) K P T' t code p names
+    → Typed c T ls t code p names → TypesLive c T' code p names → map T names ≡ map T' names
+    → cut (callees c.inside) K P T t code p names ≡ cut (callees c.inside) K P T' t code p names
 one_cut c K P T T' ls t End p names ty ty' e = refl
 one_cut c K P T T' ls t (Do m op rest) p names ty ty' e =
     let cs = callees c.inside in

@@ -66,11 +66,13 @@ pub among_right : {A : Type 0} (xs ys : List A) (e : A) → Among ys e → Among
 among_right [] ys e a = a
 among_right (x ∷ xs) ys e a = inr (among_right xs ys e a)
 
-pub among_end : (k : Node) (t : ℕ) (names : List Node) (o : Option (List Node)) → o ≡ Some names → Among (one_end k t o) (record { owner = k; count = t; names = names })
+pub among_end : (k : Node) (t : ℕ) (names : List Node) (o : Option (List Node)) → o ≡ Some names
+    → Among (one_end k t o) (record { owner = k; count = t; names = names })
 among_end k t names o e = subst (λ z. Among (one_end k t z) (record { owner = k; count = t; names = names })) (sym e) (inl refl)
 
 -- names that are there are in a set that they lie in
 pub all_first : (P : Node → Bool) (n : ℕ) (names : List Node) → n ≤ length names → ((d : Node) → AmongFirst n names d → P d ≡ true) → AllIn P n names
 all_first P zero names le f = tt
 all_first P (suc n) [] le f = absurd (omega arith)
-all_first P (suc n) (d ∷ names) le f = (f d (0, omega arith, refl), all_first P n names (omega arith) (λ e a. let lt = a.1 in f e (suc a.0, omega arith, a.2)))
+all_first P (suc n) (d ∷ names) le f =
+    (f d (0, omega arith, refl), all_first P n names (omega arith) (λ e a. let lt = a.1 in f e (suc a.0, omega arith, a.2)))

@@ -46,7 +46,8 @@ Typed c T ls t (Loop m kind body rest) p names =
 Typed c T ls t (If m kind x y rest) p names =
     HasTest T names × KindTyped T kind (Join p) × Typed c T (values_of kind ∷ ls) kind x (p + 1) [] × Typed c T (values_of kind ∷ ls) kind y (p + 1 + size x) [] × Typed c T ls t rest (p + 1 + size x + size y) (named (arity kind) (Join p) (drop 1 names))
 Typed c T ls t (Br m l rest) p names = (s : List ValType) × (slice_get ls l ≡ Some s) × Carries T s names
-Typed c T ls t (BrIf m l rest) p names = HasTest T names × ((s : List ValType) × (slice_get ls l ≡ Some s) × Carries T s (drop 1 names)) × Typed c T ls t rest (p + 1) (drop 1 names)
+Typed c T ls t (BrIf m l rest) p names =
+    HasTest T names × ((s : List ValType) × (slice_get ls l ≡ Some s) × Carries T s (drop 1 names)) × Typed c T ls t rest (p + 1) (drop 1 names)
 Typed c T ls t (BrTable m labels other rest) p names =
     HasTest T names × ((s : List ValType) × (slice_get ls other ≡ Some s) × All (λ k. slice_get ls k ≡ Some s) labels × Carries T s (drop 1 names))
 Typed c T ls t (Return m rest) p names = Carries T c.result names
@@ -116,26 +117,31 @@ integers_take T (suc n) [] i = tt
 integers_take T (suc n) (d ∷ names) i = (i.0, integers_take T n names i.1)
 
 -- results before a stack
-named_types : (T : Node → ValType) (k : ℕ) (d : Node) (names : List Node) (l r : List ValType) → map T (named k d []) ≡ l → map T names ≡ r → map T (named k d names) ≡ l ++ r
+named_types : (T : Node → ValType) (k : ℕ) (d : Node) (names : List Node) (l r : List ValType) → map T (named k d []) ≡ l → map T names ≡ r
+    → map T (named k d names) ≡ l ++ r
 named_types T zero d names l r e f = f ∙ ap (λ z. z ++ r) e
 named_types T (suc k) d names l r e f = ap (λ z. T d ∷ z) f ∙ ap (λ z. z ++ r) e
 
-named_integers : (T : Node → ValType) (k : ℕ) (d : Node) (names : List Node) → Integers (map T (named k d [])) → Integers (map T names) → Integers (map T (named k d names))
+named_integers : (T : Node → ValType) (k : ℕ) (d : Node) (names : List Node) → Integers (map T (named k d [])) → Integers (map T names)
+    → Integers (map T (named k d names))
 named_integers T zero d names a i = i
 named_integers T (suc k) d names a i = (a.0, i)
 
-result_named : (c : Context) (T : Node → ValType) (op : Instr) (k : ℕ) (d : Node) (operands : List Node) (l : List ValType) → length l ≡ k → k ≤ 1 → HasResultType c T op operands d → Types c op (map T operands) l → map T (named k d []) ≡ l
+result_named : (c : Context) (T : Node → ValType) (op : Instr) (k : ℕ) (d : Node) (operands : List Node) (l : List ValType) → length l ≡ k → k ≤ 1
+    → HasResultType c T op operands d → Types c op (map T operands) l → map T (named k d []) ≡ l
 result_named c T op zero d operands [] e le h ty = refl
 result_named c T op zero d operands (x ∷ l) e le h ty = absurd (omega arith)
 result_named c T op (suc k) d operands [] e le h ty = absurd (omega arith)
 result_named c T op (suc k) d operands (x ∷ []) e le h ty = ap (λ z. z ∷ []) (h x ty)
 result_named c T op (suc k) d operands (x ∷ y ∷ l) e le h ty = absurd (omega arith)
 
-kind_values : (T : Node → ValType) (kind : Option ValType) (d : Node) (names : List Node) (r : List ValType) → HasKind T kind d → map T names ≡ r → map T (named (arity kind) d names) ≡ values_of kind ++ r
+kind_values : (T : Node → ValType) (kind : Option ValType) (d : Node) (names : List Node) (r : List ValType) → HasKind T kind d → map T names ≡ r
+    → map T (named (arity kind) d names) ≡ values_of kind ++ r
 kind_values T None d names r h e = e
 kind_values T (Some k) d names r h e = ap₂ {A = ValType} {B = List ValType} (λ x xs. x ∷ xs) h e
 
-kind_integers : (T : Node → ValType) (kind : Option ValType) (d : Node) (names : List Node) → KindTyped T kind d → Integers (map T names) → Integers (map T (named (arity kind) d names))
+kind_integers : (T : Node → ValType) (kind : Option ValType) (d : Node) (names : List Node) → KindTyped T kind d → Integers (map T names)
+    → Integers (map T (named (arity kind) d names))
 kind_integers T None d names h i = i
 kind_integers T (Some k) d names h i = (subst (λ z. IsIntegerKind (Some z)) (sym h.1) h.0, i)
 
@@ -147,7 +153,8 @@ pub record DoStep (c : Context) (T : Node → ValType) (op : Instr) (p : ℕ) (n
   pub integer : Integers (map T (made (callees c.inside) p op names))
 
 do_step : (c : Context) → IsIntegerContext c → (T : Node → ValType) (op : Instr) (p : ℕ) (names : List Node) (s s' : List ValType)
-    → map T names ≡ s → Integers (map T names) → HasResultType c T op (take (takes (callees c.inside) op) names) (At p) → TypedPass c op s s' → DoStep c T op p names s'
+    → map T names ≡ s → Integers (map T names) → HasResultType c T op (take (takes (callees c.inside) op) names) (At p) → TypedPass c op s s'
+    → DoStep c T op p names s'
 do_step c ok T op p names s s' e i h (t, l, r, ty, f, g) =
     let sh = shape c ok op t l ty in
     let a = subst (λ n. Parts T names n t r) sh.taken (parts T names t r (e ∙ f)) in
@@ -155,15 +162,19 @@ do_step c ok T op p names s s' e i h (t, l, r, ty, f, g) =
     let b = result_named c T op (leaves (callees c.inside) op) (At p) (take (takes (callees c.inside) op) names) l sh.left sh.few h ty' in
     let j = subst Integers (sym b) (sh.integer (subst Integers a.first (integers_take T (takes (callees c.inside) op) names i))) in
     record {
-      typed = record { enough = a.enough; few = sh.few; types = subst (λ z. Types c op (map T (take (takes (callees c.inside) op) names)) z) (sym b) ty'; integer = j };
+      typed =
+          record { enough = a.enough; few = sh.few; types = subst (λ z. Types c op (map T (take (takes (callees c.inside) op) names)) z) (sym b) ty'; integer = j };
       after = named_types T (leaves (callees c.inside) op) (At p) (drop (takes (callees c.inside) op) names) l r b a.others ∙ sym g;
-      integer = named_integers T (leaves (callees c.inside) op) (At p) (drop (takes (callees c.inside) op) names) j (integers_drop T (takes (callees c.inside) op) names i);
+      integer =
+          named_integers T (leaves (callees c.inside) op) (At p) (drop (takes (callees c.inside) op) names) j (integers_drop T (takes (callees c.inside) op) names i);
     }
 
 -- ---- a sequence
 
-pub typed_of : (c : Context) → IsIntegerContext c → (T : Node → ValType) (ls : List (List ValType)) (t : Option ValType) (code : Marked) (p : ℕ) (names : List Node) (s : List ValType)
-    → ByKind code → IsIntegerCode (unmarked code) → Integers (map T names) → map T names ≡ s → Leads c ls (unmarked code) s (values_of t) → TypesLive c T code p names → Typed c T ls t code p names
+pub typed_of : (c : Context) → IsIntegerContext c
+    → (T : Node → ValType) (ls : List (List ValType)) (t : Option ValType) (code : Marked) (p : ℕ) (names : List Node) (s : List ValType)
+    → ByKind code → IsIntegerCode (unmarked code) → Integers (map T names) → map T names ≡ s → Leads c ls (unmarked code) s (values_of t)
+    → TypesLive c T code p names → Typed c T ls t code p names
 typed_of c ok T ls t End p names s k ic i e h ty = e ∙ h
 typed_of c ok T ls t (Do m op rest) p names s k ic i e (mid, q, h) ty =
     let a = do_step c ok T op p names s mid e i ty.0 (passed c ls op s mid k.0 q) in

@@ -132,7 +132,9 @@ BodyIsShort =
 
 -- its canonical spelling has at most so many bytes
 abbrev pub SliceIsShort : Type 0
-SliceIsShort = (m : Module) (name : Name) (new : Module) → IsValid m → InSubset m → HasCut m name new → length (canon new) ≤ 5 * length (canon m) + length name.bytes + 64
+SliceIsShort =
+    (m : Module) (name : Name) (new : Module) → IsValid m → InSubset m → HasCut m name new
+    → length (canon new) ≤ 5 * length (canon m) + length name.bytes + 64
 
 -- and spells it, and no other module
 abbrev pub SliceIsSpelled : Type 0
@@ -142,4 +144,6 @@ SliceIsSpelled =
 
 -- so it is as each module that is answered has to be
 abbrev pub SliceIsSealed : Type 0
-SliceIsSealed = (m : Module) (name : Name) (new : Module) → IsValid m → InSubset m → HasCut m name new → length (canon m) < 2 ^ 28 → length name.bytes < 2 ^ 28 → IsSealed new
+SliceIsSealed =
+    (m : Module) (name : Name) (new : Module) → IsValid m → InSubset m → HasCut m name new → length (canon m) < 2 ^ 28 → length name.bytes < 2 ^ 28
+    → IsSealed new

@@ -39,7 +39,8 @@ pub record Shape (n k : ℕ) (t l : List ValType) : Type 0 where
   pub integer : Integers t → Integers l
 
 shape_is : (n k : ℕ) (a b t l : List ValType) → length a ≡ n → length b ≡ k → k ≤ 1 → (Integers a → Integers b) → (t ≡ a) × (l ≡ b) → Shape n k t l
-shape_is n k a b t l x y few f (e, g) = record { taken = ap length e ∙ x; left = ap length g ∙ y; few = few; integer = λ i. subst Integers (sym g) (f (subst Integers e i)) }
+shape_is n k a b t l x y few f (e, g) =
+    record { taken = ap length e ∙ x; left = ap length g ∙ y; few = few; integer = λ i. subst Integers (sym g) (f (subst Integers e i)) }
 
 integer_width : (w : Width) → IsInteger (type_of_width w)
 integer_width W32 = tt
@@ -79,7 +80,8 @@ integers_reverse [] le i = tt
 integers_reverse (k ∷ []) le i = i
 integers_reverse (k ∷ j ∷ ks) le i = absurd (omega arith)
 
-pub shape : (c : Context) → IsIntegerContext c → (op : Instr) (t l : List ValType) → Types c op t l → Shape (takes (callees c.inside) op) (leaves (callees c.inside) op) t l
+pub shape : (c : Context) → IsIntegerContext c → (op : Instr) (t l : List ValType) → Types c op t l
+    → Shape (takes (callees c.inside) op) (leaves (callees c.inside) op) t l
 shape c ok instr.Nop t l h = shape_is _ _ _ _ t l refl refl (omega arith) (λ i. tt) h
 shape c ok instr.Drop t l (k, h) = shape_is _ _ _ _ t l refl refl (omega arith) (λ i. tt) h
 shape c ok instr.Select t l (k, h) = shape_is _ _ _ _ t l refl refl (omega arith) (λ i. (i.1.0, tt)) h
@@ -121,7 +123,8 @@ GoesOn (instr.BrTable labels other) = ⊥
 GoesOn _ = Unit {0}
 
 -- how a typed instruction passes
-pub passes_of : (c : Context) (ls : List (List ValType)) (op : Instr) (s s' t l r : List ValType) → Types c op t l → s ≡ t ++ r → s' ≡ l ++ r → Passes c ls op s s'
+pub passes_of : (c : Context) (ls : List (List ValType)) (op : Instr) (s s' t l r : List ValType) → Types c op t l → s ≡ t ++ r → s' ≡ l ++ r
+    → Passes c ls op s s'
 passes_of c ls instr.Unreachable s s' t l r h e f = absurd h
 passes_of c ls instr.Return s s' t l r h e f = absurd h
 passes_of c ls (instr.Br k) s s' t l r h e f = absurd h
