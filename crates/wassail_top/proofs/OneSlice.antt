@@ -9,14 +9,15 @@ use Rattle.wasm_types.specs.declared.module.Module.{Module}
 use Rattle.wasm_types.specs.Code.{code_of, count, list_of}
 use Rattle.wasm_types.specs.Marked.{unmarked, watched_at}
 use Rattle.wasm_meaning.specs.Actions.{callees}
-use Rattle.report_text.specs.declared.report.Report.{Report}
+use Rattle.report_text.specs.declared.refusal.Refusal.TheVariants as refusal
+use Rattle.report_text.specs.declared.refusal.QueryRefusal.{QueryRefusal}
 use Rattle.wassail_top.specs.declared.slice.SliceRefusal.{SliceRefusal}
 use Rattle.wassail_top.specs.declared.slice.SliceRefusal.TheVariants as cause
 use Rattle.wassail_top.specs.Answers.{IsSlicedAs, AnswersFlat, AnswersSlice, name_of, slice_answer}
 use Rattle.wassail_top.specs.Flat.{IsFlat}
 use Rattle.wassail_top.specs.Kept.{Tells}
 use Rattle.wassail_top.specs.Nodes.{Node}
-use Rattle.wassail_top.specs.Refusals.{Answer, slice_told_as}
+use Rattle.wassail_top.specs.Refusals.{Answer, why_not_sliced}
 use Rattle.wassail_top.specs.Sliced.{func_count, KeptAt, cut_of, appended, IsSliced}
 use Rattle.wassail_top.specs.Slices.{HasPositions, Refuses}
 use Rattle.wassail_top.proofs.Causes.{one_refused}
@@ -37,7 +38,7 @@ one_count m f n k (b, at, is) (d, there, counted) =
 
 -- ---- refusals
 
-one_cause : (m : Module) (f i : ℕ) (name : List ℕ) (c d : SliceRefusal) (r s : Report) → IsFlat m → Refuses m f i name c → Refuses m f i name d → slice_told_as f i c ≡ Some r → slice_told_as f i d ≡ Some s → c ≡ d
+one_cause : (m : Module) (f i : ℕ) (name : List ℕ) (c d : SliceRefusal) (r s : QueryRefusal) → IsFlat m → Refuses m f i name c → Refuses m f i name d → why_not_sliced f i c ≡ Some r → why_not_sliced f i d ≡ Some s → c ≡ d
 one_cause m f i name cause.NoFunction cause.NoFunction r s flat p q told told' = refl
 one_cause m f i name cause.NoFunction (cause.NoInstruction n) r s flat p q told told' = let lt = has_func m f n flat q.0 in absurd (omega arith)
 one_cause m f i name cause.NoFunction cause.NameTaken r s flat p q told told' = let lt = has_func m f q.0.0 flat q.0.1 in absurd (omega arith)
@@ -58,7 +59,7 @@ sliced_positions : (m : Module) (f i : ℕ) (name : List ℕ) (new : Module) (at
 sliced_positions m f i name new at flat s = (s.body, of_own m m.bodies f s.body flat.only.no_imports s.has_body, refl)
 
 -- what is sliced isn't refused
-not_both : (m : Module) (f i : ℕ) (name : List ℕ) (c : SliceRefusal) (r : Report) (answer : Answer) → IsFlat m → Refuses m f i name c → slice_told_as f i c ≡ Some r → IsSlicedAs m f i name answer → ⊥
+not_both : (m : Module) (f i : ℕ) (name : List ℕ) (c : SliceRefusal) (r : QueryRefusal) (answer : Answer) → IsFlat m → Refuses m f i name c → why_not_sliced f i c ≡ Some r → IsSlicedAs m f i name answer → ⊥
 not_both m f i name cause.NoFunction r answer flat p told s =
     let lt = has_func m f (count (code_of s.sliced.body.code)) flat (sliced_positions m f i name s.new s.at flat s.sliced) in omega arith
 not_both m f i name (cause.NoInstruction n) r answer flat p told s =
@@ -94,12 +95,12 @@ one_sliced m f i name new other at to p q =
     )
 
 one_flat : (f i : ℕ) (name : List ℕ) (m : Module) (a b : Answer) → IsFlat m → AnswersFlat f i name m a → AnswersFlat f i name m b → a ≡ b
-one_flat f i name m a b flat (inl p) (inl q) = one_refused (Refuses m f i name) (slice_told_as f i) a b (λ c d r s. one_cause m f i name c d r s flat) p q
+one_flat f i name m a b flat (inl p) (inl q) = one_refused refusal.Query (Refuses m f i name) (why_not_sliced f i) a b (λ c d r s. one_cause m f i name c d r s flat) p q
 one_flat f i name m a b flat (inl p) (inr s) = absurd (not_both m f i name p.0 p.1 b flat p.2 p.3 s)
 one_flat f i name m a b flat (inr s) (inl q) = absurd (not_both m f i name q.0 q.1 a flat q.2 q.3 s)
 one_flat f i name m a b flat (inr s) (inr t) =
     let same = one_sliced m f i name s.new t.new s.at t.at s.sliced t.sliced in
-    s.told ∙ ap (λ (n : Module). slice_answer n (func_count m) s.at) same.0 ∙ ap (slice_answer t.new (func_count m)) same.1 ∙ sym t.told
+    s.is ∙ ap (λ (n : Module). slice_answer n (func_count m) s.at) same.0 ∙ ap (slice_answer t.new (func_count m)) same.1 ∙ sym t.is
 
 pub one_slice : (f i : ℕ) (name : List ℕ) (m : Module) (a b : Answer) → AnswersSlice f i name m a → AnswersSlice f i name m b → a ≡ b
 one_slice f i name m a b (inl p) (inl q) = p.1 ∙ sym q.1

@@ -1,9 +1,9 @@
 -- What status 0 of `slice` says.
-use Rattle.std.specs.Prelude.{◌≡◌, ℕ, List, [], ◌∷◌, codes, decimal, Ok}
+use Rattle.std.specs.Prelude.{◌≡◌, ℕ, List, Ok}
 use Rattle.std.specs.declared.option.Option.{Option}
 use Rattle.std.specs.Io.KnownBytes.{Appends}
 use Rattle.outside_io.specs.Whole.{TookAll}
-use Rattle.report_text.specs.Lines.{line_of}
+use Rattle.report_text.specs.Texts.{slice_line}
 use Rattle.wasm_types.specs.declared.module.Module.{Module}
 use Rattle.wasm_types.specs.declared.module.Value.{Value}
 use Rattle.wasm_types.specs.Canon.{canon}
@@ -42,7 +42,7 @@ pub record SliceHolds (f i : ℕ) (name : List ℕ) (left_old left_new out_old o
   pub at : ℕ
   pub sliced : IsSliced m f i (name_of name) new at
   pub out : Appends out_old out_new (canon new)
-  pub err : Appends err_old err_new (line_of (codes "function " ∷ decimal (func_count m) ∷ codes " instruction " ∷ decimal at ∷ []))
+  pub err : Appends err_old err_new (slice_line (func_count m) at)
   pub valid : IsValid new
   pub itself : DecodesAsItself new
   pub follows : Follows m f i new (func_count m) at

@@ -1,4 +1,5 @@
-// Calls of lower layers that the program makes in another form or not at all.
+//! Calls of lower layers that the program makes in another form or not at all.
+
 ghost use Rattle.std.specs.Prelude.{◌≡◌, ◌↔◌, ◌<◌, ◌≤◌, ◌^◌, IfOk, IsTrue, length};
 ghost use Rattle.wasm_types.specs.Canon.{canon};
 ghost use Rattle.wasm_types.specs.Sizes.{HasAtMost};

@@ -1,24 +1,33 @@
-//! What is told in place of an answer.
+//! Why there is no answer.
 
 use wasm_types::{LimitKind, Part};
 
-/// Why there is no answer. Each has one line on standard error.
+/// Why there is no answer, by what is refused. Each refusal has one line on standard error.
 #[derive(Clone, Copy, Debug, PartialEq, Eq)]
-pub enum Report {
+pub enum Refusal {
     /// The words are no command.
     Words,
     /// A read failed.
-    ReadFault,
+    ReadFailed,
+    /// The bytes that were read are too many, or no module that is analysed.
+    Module(ModuleRefusal),
+    /// What is asked of the module has no answer.
+    Query(QueryRefusal),
+}
+
+/// Why a module is refused, in the order in which the causes are tested.
+#[derive(Clone, Copy, Debug, PartialEq, Eq)]
+pub enum ModuleRefusal {
     /// More bytes came than a module may have.
     TooLong,
     /// The bytes don't begin with the header of a module.
-    Header,
+    NoHeader,
     /// Section `k`, counted from 0 with custom ones, has no known id, no legal size, a size past the end, or stands out of order.
-    Frame {
+    NoFrame {
         k: u32,
     },
-    /// The contents of section `k` don't spell a section of its id.
-    Section {
+    /// Section `k` does not read: its contents don't spell a section of its id.
+    DoesNotRead {
         k: u32,
         id: u8,
     },
@@ -43,17 +52,17 @@ pub enum Report {
     Invalid {
         part: Part,
     },
+}
+
+/// Why a query about a module is refused, in the order in which the causes are tested.
+#[derive(Clone, Copy, Debug, PartialEq, Eq)]
+pub enum QueryRefusal {
     /// The module can't be sliced yet.
     Unbuilt,
     /// The module has no function of this number.
-    NoFunction {
-        func: u32,
-    },
+    NoFunction { func: u32 },
     /// The function has only `count` instructions.
-    NoInstruction {
-        at: u32,
-        count: u32,
-    },
+    NoInstruction { at: u32, count: u32 },
     /// An export of the module has the name already.
     NameTaken,
 }
