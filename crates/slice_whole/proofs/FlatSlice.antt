@@ -19,9 +19,9 @@ use Rattle.wasm_types.specs.declared.module.Module.{Module}
 use Rattle.wasm_types.specs.declared.instr.Instr.{Instr}
 use Rattle.wasm_types.specs.declared.place.Part.TheVariants as part
 use Rattle.wasm_types.specs.declared.place.LimitKind.TheVariants as limit
-use Rattle.wasm_types.specs.Code.{code_of, count}
+use Rattle.wasm_types.specs.Code.{Code, done, one, block, repeat, branch, code_of, count, nest}
 use Rattle.wasm_types.specs.Sizes.{positions}
-use Rattle.wasm_types.specs.Small.{IsI32, IsSmallType, IsSmallBody, IsSmall}
+use Rattle.wasm_types.specs.Small.{IsI32, IsSmallCode, IsSmallType, IsSmallBody, IsSmall}
 use Rattle.wasm_types.specs.Spaces.{func_import, imported, import_count, func_types, type_numbered, type_of_func, run_types, local_types}
 use Rattle.wasm_types.specs.Validity.{IsValidBody, IsValid}
 use Rattle.wasm_types.proofs.CodeLemmas.{length-flatten}
@@ -127,7 +127,7 @@ runs_i32 [] all = All-nil IsI32
 runs_i32 (r ∷ rs) all =
     All-append IsI32 (replicate r.count r.kind) (run_types rs) (All-replicate IsI32 r.count r.kind (All-head (λ (x : LocalRun). IsI32 x.kind) r rs all)) (runs_i32 rs (All-tail (λ (x : LocalRun). IsI32 x.kind) r rs all))
 
-locals_i32 : (t : FuncType) (b : Body) → IsSmallType t → IsSmallBody b → (x : ℕ) (k : ValType) → slice_get (local_types t b) x ≡ Some k → k ≡ I32
+pub locals_i32 : (t : FuncType) (b : Body) → IsSmallType t → IsSmallBody b → (x : ℕ) (k : ValType) → slice_get (local_types t b) x ≡ Some k → k ≡ I32
 locals_i32 t b small is x k at = all_at IsI32 (local_types t b) x k (All-append IsI32 t.params (run_types b.locals) small.0 (runs_i32 b.locals is.0)) at
 
 pub typed_body : (m : Module) (t : FuncType) (b : Body) → IsValidBody m t b → IsTyped (code_of b.code)
@@ -185,3 +185,14 @@ has_instruction m f i new found = (count (code_of found.body.code), (found.body,
 
 pub body_parts : (b : Body) (locals : List LocalRun) (code code' : List Instr) → locals ≡ b.locals → code ≡ code' → record { locals = locals; code = code } ≡ record b { code = code' }
 body_parts b locals code code' e f = cc
+
+pub small_body : (m : Module) (f : ℕ) (b : Body) → IsSmall m → slice_get m.bodies f ≡ Some b → IsSmallBody b
+small_body m f b small is = all_at IsSmallBody m.bodies f b small.1 is
+
+-- flat code nests no block
+pub small_nests_none : (c : Code) → IsSmallCode c → nest c ≡ 0
+small_nests_none done small = refl
+small_nests_none (one i rest) small = small_nests_none rest small.1
+small_nests_none (block kind body rest) small = absurd small
+small_nests_none (repeat kind body rest) small = absurd small
+small_nests_none (branch kind x y rest) small = absurd small

@@ -2,3 +2,4 @@ mod SmallCode
 mod FlatSites
 pub mod FlatSlice
 pub mod Made
+pub mod OneSliced
