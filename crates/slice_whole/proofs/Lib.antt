@@ -3,3 +3,4 @@ mod FlatSites
 pub mod FlatSlice
 pub mod Made
 pub mod OneSliced
+mod SliceExample

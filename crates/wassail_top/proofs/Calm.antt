@@ -8,7 +8,7 @@ use Rattle.wassail_top.specs.Orders.{Order}
 use Rattle.wassail_top.specs.Orders.Order.{check, rewrite, slice}
 use Rattle.wassail_top.specs.Answers.{Answers, AnswersOrder, AnswersModule, AnswersAdmitted, IsDue}
 use Rattle.wassail_top.specs.Refusals.{Answer, why_not_decoded, why_not_admitted, why_not_sliced}
-use Rattle.wassail_top.specs.Slices as query
+use Rattle.slice_whole.specs.Slices as query
 use Rattle.wassail_top.specs.Words.{order_of}
 use Rattle.wassail_top.specs.Outcome.{ReadFailed, GaveAll}
 use Rattle.wassail_top.proofs.Causes.{module_status, query_status}

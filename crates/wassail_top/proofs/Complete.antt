@@ -8,11 +8,11 @@ use Rattle.wasm_types.proofs.ModuleLemmas.{one_module}
 use Rattle.wasm_decode.specs.Decode.{Decodes}
 use Rattle.wasm_validate.specs.Admission.{IsAdmitted}
 use Rattle.wassail_top.specs.Answers.{AnswersOrder, AnswersBytes, AnswersModule, AnswersAdmitted, IsDue, most_bytes}
-use Rattle.wassail_top.specs.Flat.{IsFlat}
+use Rattle.slice_whole.specs.Flat.{IsFlat}
 use Rattle.wassail_top.specs.Orders.{Order}
 use Rattle.wassail_top.specs.Orders.Order.{check, rewrite, slice}
 use Rattle.wassail_top.specs.Refusals.{Answer, HasNoRefusal, why_not_sliced}
-use Rattle.wassail_top.specs.Slices.{Refuses}
+use Rattle.slice_whole.specs.Slices.{Refuses}
 use Rattle.wassail_top.specs.Words.{order_of}
 use Rattle.wassail_top.proofs.OneAdmission.{admitted_not_refused}
 use Rattle.wassail_top.proofs.OneDecoding.{decoded_not_refused}

@@ -25,8 +25,8 @@ use Rattle.wasm_types.specs.Spaces.{import_count}
 use Rattle.wasm_types.specs.Subset.{IsInteger, IsIntegerInstr, IsIntegerCode, IsIntegerFunc, IsIntegerImport, IsIntegerElem, IsIntegerSegment, HasNoFloatIn, NestsAtMost, most_nesting}
 use Rattle.wasm_validate.specs.Admission.{IsAdmitted}
 use Rattle.wasm_validate.proofs.EntryLemmas.{all_at, if_some}
-use Rattle.wassail_top.specs.Flat.{IsFlat}
-use Rattle.wassail_top.proofs.FlatTyping.{small_nests_none}
+use Rattle.slice_whole.specs.Flat.{IsFlat}
+use Rattle.slice_whole.proofs.FlatSlice.{small_nests_none}
 
 i32_integer : (t : ValType) → IsI32 t → IsInteger t
 i32_integer t is = subst IsInteger (sym is) tt

@@ -8,37 +8,23 @@ use Rattle.wasm_types.specs.declared.module.DataSegment.{DataSegment}
 use Rattle.wasm_types.specs.declared.module.Module.{Module}
 use Rattle.wasm_types.specs.Code.{code_of, nest}
 use Rattle.wasm_types.specs.Canon.{canon}
-use Rattle.wasm_types.specs.Subset.{NestsAtMost, most_nesting}
+use Rattle.wasm_types.specs.Subset.{InSubset, most_nesting}
 use Rattle.wasm_types.proofs.LeastLemmas.{canon_is_least}
 use Rattle.wasm_decode.specs.Decode.{Decodes}
 use Rattle.wasm_validate.specs.Admission as admission
 use Rattle.wassail_top.specs.Answers.{AnswersOrder, AnswersBytes, IsDue, most_bytes, name_of}
-use Rattle.wassail_top.specs.Flat.{IsFlat}
+use Rattle.slice_whole.specs.Flat.{IsFlat}
 use Rattle.wassail_top.specs.Headline.{SliceHolds}
 use Rattle.wassail_top.specs.Orders.{Order}
 use Rattle.wassail_top.specs.Orders.Order.{slice}
 use Rattle.wassail_top.specs.Outcome.{GaveAll}
 use Rattle.wassail_top.specs.Refusals.{Answer, why_not_decoded, why_not_admitted, why_not_sliced}
-use Rattle.wassail_top.specs.SliceLaws.{IsNamedSlice, NestsNone}
-use Rattle.wassail_top.specs.Sliced.{IsSliced}
-use Rattle.wassail_top.specs.Slices.{Refuses}
+use Rattle.flow_domain.specs.Sliced.{IsSliced}
+use Rattle.slice_whole.specs.Slices.{Refuses}
 use Rattle.wassail_top.specs.Words.{order_of}
 use Rattle.wassail_top.proofs.Causes.{module_status, query_status}
-use Rattle.wassail_top.proofs.Follows.{slice_follows}
-use Rattle.wassail_top.proofs.NamedSlice.{named}
-use Rattle.wassail_top.proofs.SlicedLaws.{slice_valid, slice_spelled}
-
--- what a slice has no more of than its original
-none_more : {A : Type 0} (P : A → Type 0) (xs ys : List A) → xs ≡ ys → ys ≡ [] → All P xs
-none_more P xs ys e z = subst (All P) (sym (e ∙ z)) (λ k d lt. absurd (omega arith))
-
-within_limit : (m : Module) (f i : ℕ) (name : List ℕ) (new : Module) (at : ℕ) → IsFlat m → IsSliced m f i (name_of name) new at → NestsNone new → NestsAtMost most_nesting new
-within_limit m f i name new at flat s none = record {
-  globals = none_more (λ (g : GlobalDef). nest (code_of g.init) ≤ most_nesting) new.globals m.globals (ap (λ (x : Module). x.globals) s.is) flat.only.no_globals;
-  elems = none_more (λ (e : Elem). nest (code_of e.offset) ≤ most_nesting) new.elems m.elems (ap (λ (x : Module). x.elems) s.is) flat.only.no_elements;
-  bodies = λ k d lt. let e = none k d lt in omega arith;
-  segments = none_more (λ (d : DataSegment). nest (code_of d.offset) ≤ most_nesting) new.segments m.segments (ap (λ (x : Module). x.segments) s.is) flat.only.no_data;
-}
+use Rattle.stack_repair.proofs.Slices.{sliced_has_cut}
+use Rattle.stack_repair.proofs.Appended.{slice_is_valid, slice_is_spelled}
 
 holds : (f i : ℕ) (name : List ℕ) (bytes : List ℕ) (left_old left_new out_old out_new err_old err_new : Option (List ℕ)) (answer : Answer)
     → TookAll left_old left_new bytes → length bytes ≤ most_bytes → AnswersBytes (slice f i name) bytes answer → answer.status ≡ 0 → GaveAll out_old out_new err_old err_new answer
@@ -52,11 +38,12 @@ holds f i name bytes left_old left_new out_old out_new err_old err_new answer to
 holds f i name bytes left_old left_new out_old out_new err_old err_new answer took short (inr (form, decodes, inr (admitted, inr (flat, inl bad)))) zero gave =
     let six : answer.status ≡ 6 = query_status (Refuses form f i name) (why_not_sliced f i) answer bad in absurd (omega arith)
 holds f i name bytes left_old left_new out_old out_new err_old err_new answer took short (inr (form, decodes, inr (admitted, inr (flat, inr s)))) zero gave =
-    let h : IsNamedSlice form (name_of name) s.new = named form f i name s.new s.at flat s.sliced s.proper s.free in
-    let valid = slice_valid form (name_of name) s.new h in
+    let h = sliced_has_cut form f i (name_of name) s.new s.at s.proper s.free s.sliced in
+    let sub : InSubset form = record { no_float = admitted.no_float; limits = admitted.limits; nesting = decodes.1 } in
+    let valid = slice_is_valid form (name_of name) s.new admitted.valid sub h in
     let few : length (canon form) ≤ length bytes = canon_is_least bytes form decodes.0 in
     let name_short = s.short in
-    let spelled = slice_spelled form (name_of name) s.new h (omega arith) (omega arith) in
+    let spelled = slice_is_spelled form (name_of name) s.new admitted.valid sub h (omega arith) (omega arith) in
     let given = subst (λ (a : Answer). GaveAll out_old out_new err_old err_new a) s.is gave in
     record {
       bytes = bytes;
@@ -69,8 +56,7 @@ holds f i name bytes left_old left_new out_old out_new err_old err_new answer to
       out = given.out;
       err = given.err;
       valid = valid.0;
-      itself = record { decodes = (spelled.1, within_limit form f i name s.new s.at flat s.sliced valid.2); alone = spelled.2 };
-      follows = slice_follows form flat f i (name_of name) s.new s.at s.sliced;
+      itself = record { decodes = (spelled.1, valid.3 most_nesting sub.nesting); alone = spelled.2 };
     }
 
 of_order : (f i : ℕ) (name : List ℕ) (left_old left_new out_old out_new err_old err_new : Option (List ℕ)) (answer : Answer)

@@ -9,43 +9,19 @@ use Rattle.wasm_types.specs.declared.module.Module.{Module}
 use Rattle.wasm_types.specs.Code.{code_of, count, list_of}
 use Rattle.wasm_types.specs.Marked.{unmarked, watched_at}
 use Rattle.wasm_types.specs.WellFormed.{ProperName}
-use Rattle.wasm_meaning.specs.Actions.{callees}
-use Rattle.wassail_top.specs.declared.slice.SliceRefusal.TheVariants as cause
+use Rattle.wasm_types.specs.Actions.{callees}
+use Rattle.slice_whole.specs.declared.slicing.SliceRefusal.TheVariants as cause
 use Rattle.wassail_top.specs.Answers.{IsSlicedAs, AnswersFlat, AnswersSlice, name_of, slice_answer}
-use Rattle.wassail_top.specs.Flat.{IsFlat}
-use Rattle.wassail_top.specs.Kept.{Tells}
-use Rattle.wassail_top.specs.Nodes.{Node}
+use Rattle.slice_whole.specs.Flat.{IsFlat}
+use Rattle.flow_domain.specs.Kept.{Tells}
+use Rattle.wasm_types.specs.declared.place.Node.{Node}
 use Rattle.wassail_top.specs.Orders.{most_name_bytes}
 use Rattle.wassail_top.specs.Refusals.{Answer, refused}
-use Rattle.wassail_top.specs.Sliced.{func_count, KeptAt, cut_of, appended, IsSliced}
-use Rattle.wassail_top.specs.Slices.{HasExport, told_by}
-use Rattle.wassail_top.proofs.FlatKept.{flags, flags_tell}
-use Rattle.wassail_top.proofs.FlatSlice.{OwnFunc, own_func, own_count, at_own, within_get}
+use Rattle.flow_domain.specs.Sliced.{func_count, KeptAt, cut_of, appended, IsSliced}
+use Rattle.stack_repair.specs.Law.{HasExport}
+use Rattle.slice_whole.proofs.OneSliced.{the_slice}
+use Rattle.slice_whole.proofs.FlatSlice.{OwnFunc, own_func, own_count, at_own, within_get}
 use Rattle.wassail_top.proofs.NotRefuted.{NotRefuted, either}
-
--- the sliced module of a function that is there
-pub the_slice : (m : Module) (f type i : ℕ) (name : List ℕ) (b : Body) → IsFlat m → slice_get m.funcs f ≡ Some type → slice_get m.bodies f ≡ Some b → i < count (code_of b.code)
-    → (new : Module) × (at : ℕ) × IsSliced m f i (name_of name) new at
-the_slice m f type i name b flat at is lt =
-    let own : OwnFunc m f type b = own_func m f type b flat.only.no_imports flat.small flat.valid at is in
-    let K : Node → Bool = told_by (flags (callees m) (nat_eq i) 0 (code_of b.code)) in
-    let cut = cut_of (callees m) K own.kind b i in (
-      appended m type (record b { code = list_of (unmarked cut) }) (name_of name),
-      watched_at cut,
-      record {
-        type = type;
-        own = at_own m m.funcs f type flat.only.no_imports at;
-        kind = own.kind;
-        kind_is = own.kind_is;
-        body = b;
-        has_body = at_own m m.bodies f b flat.only.no_imports is;
-        there = lt;
-        kept = K;
-        exact = flags_tell (callees m) (length own.kind.results) (nat_eq i) (code_of b.code) own.small.1;
-        is = refl;
-        at_is = refl;
-      },
-    )
 
 abbrev Answered : Module → ℕ → ℕ → List ℕ → Type 0
 Answered m f i name = (answer : Answer) × AnswersFlat f i name m answer
@@ -55,7 +31,7 @@ of_name : (m : Module) (f type i : ℕ) (name : List ℕ) (b : Body) → IsFlat 
 of_name m f type i name b flat proper short at is lt (inl taken) =
     (refused (refusal.Query of_query.NameTaken), inl (cause.NameTaken, of_query.NameTaken, ((count (code_of b.code), (b, is, refl), lt), taken), refl, refl))
 of_name m f type i name b flat proper short at is lt (inr free) =
-    let s = the_slice m f type i name b flat at is lt in
+    let s = the_slice m f type i (name_of name) b flat at is lt in
     (slice_answer s.0 (func_count m) s.1, inr (record { new = s.0; at = s.1; sliced = s.2; proper = proper; free = free; short = short; is = refl }))
 
 of_body : (m : Module) (f type i : ℕ) (name : List ℕ) (b : Body) → IsFlat m → ProperName (name_of name) → length name ≤ most_name_bytes

@@ -10,8 +10,8 @@ use Rattle.wasm_decode.specs.declared.refusal.DecodeEnd.{DecodeEnd}
 use Rattle.wasm_decode.specs.declared.refusal.DecodeEnd.TheVariants as decode
 use Rattle.wasm_validate.specs.declared.refusal.AdmitEnd.{AdmitEnd}
 use Rattle.wasm_validate.specs.declared.refusal.AdmitEnd.TheVariants as admit
-use Rattle.wassail_top.specs.declared.slice.SliceRefusal.{SliceRefusal}
-use Rattle.wassail_top.specs.declared.slice.SliceRefusal.TheVariants as slice
+use Rattle.slice_whole.specs.declared.slicing.SliceRefusal.{SliceRefusal}
+use Rattle.slice_whole.specs.declared.slicing.SliceRefusal.TheVariants as slice
 use Rattle.wassail_top.specs.Statuses.{refusal_status}
 
 -- a status, and what out and err get

@@ -7,19 +7,18 @@ ghost use Rattle.wasm_types.specs.Subset.{NestsAtMost, most_nesting};
 ghost use Rattle.wasm_types.specs.WellFormed.{IsWellFormed};
 ghost use Rattle.wasm_validate.specs.Admission.{IsAdmitted};
 ghost use Rattle.wassail_top.specs.Answers.{IsDue, IsDueTo, AnswersAdmitted, AnswersBytes, AnswersFlat, AnswersModule, AnswersSlice, most_bytes, slice_answer};
-ghost use Rattle.wassail_top.specs.Flat.{IsFlat};
+ghost use Rattle.slice_whole.specs.Flat.{IsFlat};
 ghost use Rattle.wassail_top.specs.Orders.{HasShortName, most_name_bytes, order_read};
 ghost use Rattle.wassail_top.specs.Refusals.{refused};
 ghost use Rattle.wassail_top.specs.Reply.{reply_answer};
 ghost use Rattle.wassail_top.specs.Words.{order_of};
 
-use crate::flat::is_flat;
 use crate::refusals::{admit_refusal, decode_refusal, slice_refusal};
-use crate::slice::{Sliced, slice};
 use crate::status::Status;
 use crate::words::{Command, WordsEnd, parse_words};
 use outside_io::{ReadEnd, Source, read_all};
 use report_text::{ModuleRefusal, QueryRefusal, Refusal, refusal_text, slice_text, valid_text};
+use slice_whole::{Sliced, is_flat, slice};
 use std::alloc::Global;
 use wasm_decode::decode;
 use wasm_encode::encode;
@@ -138,7 +137,7 @@ fn answer_slice(
     ensures { IfOk result (λ reply. AnswersSlice func at name.now valid (reply_answer reply)) }
 {
     if is_flat(valid.module()) {
-        slice_flat(alloc, valid.into_module(), func, at, name)
+        slice_flat(alloc, valid, func, at, name)
     } else {
         refuse(alloc, Refusal::Query(QueryRefusal::Unbuilt))
     }
@@ -147,17 +146,17 @@ fn answer_slice(
 // What `slice` answers about a flat module.
 fn slice_flat(
     alloc: Global,
-    form: Module,
+    valid: ValidModule,
     func: u32,
     at: u32,
     name: &str,
 ) -> Result<Reply, NoMemory>
-    requires flat { IsFlat form }
-    requires short { length (canon form) ≤ most_bytes }
+    requires flat { IsFlat valid }
+    requires short { length (canon valid) ≤ most_bytes }
     requires name { length name.now ≤ most_name_bytes }
-    ensures { IfOk result (λ reply. AnswersFlat func at name.now form (reply_answer reply)) }
+    ensures { IfOk result (λ reply. AnswersFlat func at name.now valid (reply_answer reply)) }
 {
-    match slice(alloc, form, func, Pos(at), name) {
+    match slice(alloc, valid, func, Pos(at), name) {
         Ok(sliced) => write_slice(alloc, &sliced),
         Err(end) => match slice_refusal(end, func, at) {
             Some(cause) => refuse(alloc, Refusal::Query(cause)),
@@ -174,7 +173,7 @@ fn write_slice(alloc: Global, sliced: &Sliced) -> Result<Reply, NoMemory>
 {
     Ok(Reply {
         status: Status::Answered,
-        out: encode(alloc, &sliced.module)?,
+        out: encode(alloc, sliced.module.module())?,
         err: slice_text(alloc, sliced.func, sliced.at.0)?,
     })
 }

@@ -11,12 +11,12 @@ ghost use Rattle.wasm_types.specs.Subset.{InSubset};
 ghost use Rattle.wasm_types.specs.Validity.{IsValid};
 ghost use Rattle.wasm_types.specs.WellFormed.{IsU8};
 ghost use Rattle.wassail_top.specs.Answers.{Answers, HasAnswer, IsText, most_bytes};
-ghost use Rattle.wassail_top.specs.Flat.{IsFlat};
+ghost use Rattle.slice_whole.specs.Flat.{IsFlat};
 ghost use Rattle.wassail_top.specs.Headline.{SliceHolds};
 ghost use Rattle.wassail_top.specs.Orders.Order.{slice};
 ghost use Rattle.wassail_top.specs.Outcome.{Answered, ReadFailed, WriteFailed};
 ghost use Rattle.wassail_top.specs.Refusals.{Answer, HasNoRefusal, why_not_sliced};
-ghost use Rattle.wassail_top.specs.Slices.{Refuses};
+ghost use Rattle.slice_whole.specs.Slices.{Refuses};
 ghost use Rattle.wassail_top.specs.Words.{order_of};
 
 use crate::deliver::deliver;

@@ -3,7 +3,7 @@ use Rattle.std.proofs.lemmas.Result.{IfOk-weaker}
 use Rattle.wasm_types.specs.declared.module.Module.{Module}
 use Rattle.wasm_types.specs.Validity.{IsValid}
 use Rattle.wassail_top.specs.Answers.{AnswersFlat}
-use Rattle.wassail_top.specs.Flat.{IsFlat}
+use Rattle.slice_whole.specs.Flat.{IsFlat}
 use Rattle.wassail_top.specs.Reply.{reply_answer}
 use Rattle.wassail_top.proofs.due.answer_slice.Goals as goal
 
@@ -14,5 +14,4 @@ pub returns-then-is_flat : goal.returns-then-is_flat
 returns-then-is_flat c =
     let flat : IsFlat c.args.valid = subst IsFlat c.module.ensures.same (c.if-is_flat.ensures.0 refl) in
     IfOk-weaker c.slice_flat.result _ _
-    (λ reply answer. inr (flat, subst (λ (m : Module). AnswersFlat c.args.func c.args.at c.args.name.now m (reply_answer reply)) c.into_module.ensures.same answer))
-    c.slice_flat.ensures
+    (λ reply answer. inr (flat, answer)) c.slice_flat.ensures
