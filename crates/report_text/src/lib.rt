@@ -1,10 +1,10 @@
 //! The texts that the program prints, each worded here alone (docs/COMMANDS.md).
 #![tactic(auto)]
 
-mod report;
+mod refusal;
 #[cfg(test)]
 mod tests;
 mod text;
 
-pub use report::Report;
-pub use text::refusal_text;
+pub use refusal::{ModuleRefusal, QueryRefusal, Refusal};
+pub use text::{refusal_text, slice_text, valid_text};

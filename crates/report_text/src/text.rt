@@ -1,10 +1,10 @@
-//! The lines themselves.
+//! The lines themselves. Each function fails only where an allocation is refused.
 
 ghost use Rattle.std.specs.Prelude.{◌≡◌, IfOk};
 ghost use Rattle.std.specs.String.{string_bytes};
-ghost use Rattle.report_text.specs.Lines.{limit_texts, line_of, part_text, refusal_line};
+ghost use Rattle.report_text.specs.Texts.{limit_texts, line_of, module_texts, part_text, query_texts, refusal_line, refusal_texts, slice_line, valid_line};
 
-use crate::report::Report;
+use crate::refusal::{ModuleRefusal, QueryRefusal, Refusal};
 use std::alloc::{AllocError, Global};
 use wasm_types::{LimitKind, NoMemory, Part};
 
@@ -27,9 +27,9 @@ fn part_name(alloc: Global, part: Part) -> Result<String, AllocError>
     }
 }
 
-/// What is said of a number over its limit, with the line end.
-fn limit_line(alloc: Global, which: LimitKind, at: u32, count: u64) -> Result<String, AllocError>
-    ensures { IfOk result (λ line. string_bytes line ≡ line_of (limit_texts which at count)) }
+/// What is said of a number over its limit, to the end of the line.
+fn limit_end(alloc: Global, which: LimitKind, at: u32, count: u64) -> Result<String, AllocError>
+    ensures { IfOk result (λ text. string_bytes text ≡ line_of (limit_texts which at count)) }
 {
     match which {
         LimitKind::Functions => format!(in alloc; "{count} functions\n"),
@@ -41,60 +41,91 @@ fn limit_line(alloc: Global, which: LimitKind, at: u32, count: u64) -> Result<St
     }
 }
 
-/// The line of a refusal, with the line end.
-fn refusal_string(alloc: Global, r: Report) -> Result<String, AllocError>
-    ensures { IfOk result (λ line. string_bytes line ≡ refusal_line r) }
+/// Why a module is refused, to the end of the line.
+fn module_end(alloc: Global, cause: ModuleRefusal) -> Result<String, AllocError>
+    ensures { IfOk result (λ text. string_bytes text ≡ line_of (module_texts cause)) }
 {
-    match r {
-        Report::Words => format!(in alloc; "wassail: words refused\n"),
-        Report::ReadFault => format!(in alloc; "wassail: read failed\n"),
-        Report::TooLong => {
-            format!(in alloc; "wassail: module refused: longer than 8388608 bytes\n")
+    match cause {
+        ModuleRefusal::TooLong => format!(in alloc; "longer than 8388608 bytes\n"),
+        ModuleRefusal::NoHeader => format!(in alloc; "no module header\n"),
+        ModuleRefusal::NoFrame { k } => format!(in alloc; "section {k} has no frame\n"),
+        ModuleRefusal::DoesNotRead { k, id } => {
+            format!(in alloc; "section {k} (id {id}) does not read\n")
         }
-        Report::Header => format!(in alloc; "wassail: module refused: no module header\n"),
-        Report::Frame { k } => {
-            format!(in alloc; "wassail: module refused: section {k} has no frame\n")
+        ModuleRefusal::TooDeep { id, entry } => {
+            format!(in alloc; "nesting over 1024 in section id {id} entry {entry}\n")
         }
-        Report::Section { k, id } => {
-            format!(in alloc; "wassail: module refused: section {k} (id {id}) does not read\n")
+        ModuleRefusal::Counts => {
+            format!(in alloc; "function and code sections differ in count\n")
         }
-        Report::TooDeep { id, entry } => {
-            format!(in alloc;
-                "wassail: module refused: nesting over 1024 in section id {id} entry {entry}\n"
-            )
-        }
-        Report::Counts => {
-            format!(in alloc;
-                "wassail: module refused: function and code sections differ in count\n"
-            )
-        }
-        Report::Float { part } => {
+        ModuleRefusal::Float { part } => {
             let name = part_name(alloc, part)?;
-            format!(in alloc; "wassail: module refused: float type or instruction in {name}\n")
+            format!(in alloc; "float type or instruction in {name}\n")
         }
-        Report::Limit { which, at, count } => {
-            let line = limit_line(alloc, which, at, count)?;
-            format!(in alloc; "wassail: module refused: limit: {line}")
+        ModuleRefusal::Limit { which, at, count } => {
+            let end = limit_end(alloc, which, at, count)?;
+            format!(in alloc; "limit: {end}")
         }
-        Report::Invalid { part } => {
+        ModuleRefusal::Invalid { part } => {
             let name = part_name(alloc, part)?;
-            format!(in alloc; "wassail: module refused: invalid {name}\n")
+            format!(in alloc; "invalid {name}\n")
         }
-        Report::Unbuilt => format!(in alloc; "wassail: query refused: not built yet\n"),
-        Report::NoFunction { func } => {
-            format!(in alloc; "wassail: query refused: no function {func}\n")
-        }
-        Report::NoInstruction { at, count } => {
-            format!(in alloc; "wassail: query refused: no instruction {at}, function has {count}\n")
-        }
-        Report::NameTaken => { format!(in alloc; "wassail: query refused: export name taken\n") }
     }
 }
 
-/// The line that tells of a refusal, with the line end (docs/COMMANDS.md, "Refusals"). An error comes only where memory is refused.
-pub fn refusal_text(alloc: Global, r: &Report) -> Result<Vec<u8>, NoMemory>
-    ensures { IfOk result (λ text. text.items ≡ refusal_line r.now) }
+/// Why a query is refused, to the end of the line.
+fn query_end(alloc: Global, cause: QueryRefusal) -> Result<String, AllocError>
+    ensures { IfOk result (λ text. string_bytes text ≡ line_of (query_texts cause)) }
 {
-    let line = refusal_string(alloc, *r)?;
+    match cause {
+        QueryRefusal::Unbuilt => format!(in alloc; "not built yet\n"),
+        QueryRefusal::NoFunction { func } => format!(in alloc; "no function {func}\n"),
+        QueryRefusal::NoInstruction { at, count } => {
+            format!(in alloc; "no instruction {at}, function has {count}\n")
+        }
+        QueryRefusal::NameTaken => format!(in alloc; "export name taken\n"),
+    }
+}
+
+/// What is refused and why, to the end of the line.
+fn refusal_end(alloc: Global, refusal: Refusal) -> Result<String, AllocError>
+    ensures { IfOk result (λ text. string_bytes text ≡ line_of (refusal_texts refusal)) }
+{
+    match refusal {
+        Refusal::Words => format!(in alloc; "words refused\n"),
+        Refusal::ReadFailed => format!(in alloc; "read failed\n"),
+        Refusal::Module(cause) => {
+            let end = module_end(alloc, cause)?;
+            format!(in alloc; "module refused: {end}")
+        }
+        Refusal::Query(cause) => {
+            let end = query_end(alloc, cause)?;
+            format!(in alloc; "query refused: {end}")
+        }
+    }
+}
+
+/// The line of a refusal (docs/COMMANDS.md, "Refusals").
+pub fn refusal_text(alloc: Global, refusal: Refusal) -> Result<Vec<u8>, NoMemory>
+    ensures { IfOk result (λ text. text.items ≡ refusal_line refusal) }
+{
+    let end = refusal_end(alloc, refusal)?;
+    let line = format!(in alloc; "wassail: {end}")?;
+    Ok(line.into_bytes())
+}
+
+/// The line of a module that `check` takes.
+pub fn valid_text(alloc: Global) -> Result<Vec<u8>, NoMemory>
+    ensures { IfOk result (λ text. text.items ≡ valid_line) }
+{
+    let line = format!(in alloc; "valid\n")?;
+    Ok(line.into_bytes())
+}
+
+/// The line that `slice` writes beside the sliced module.
+pub fn slice_text(alloc: Global, func: u32, at: u32) -> Result<Vec<u8>, NoMemory>
+    ensures { IfOk result (λ text. text.items ≡ slice_line func at) }
+{
+    let line = format!(in alloc; "function {func} instruction {at}\n")?;
     Ok(line.into_bytes())
 }

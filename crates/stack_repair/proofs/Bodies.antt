@@ -216,13 +216,19 @@ cut_is_valid m F b h w K P T ty needed =
     subst (λ z. Leads c (F.results ∷ []) z [] F.results) (sym (cut_back m F b h w K P T ty needed))
     (subst (λ z. Leads c (F.results ∷ []) cut [] z) (typed_body m F b h).values (cut_leads_on m F b h w K P T ty needed))
 
-pub cut_is_one : CutIsOne
-cut_is_one m F b h w K P T T' ty ty' =
+-- with any types of the places the cut is one
+pub one_cut_code : (m : Module) (F : FuncType) (b : Body) → HasTypedBody m F b → (w : ℕ → Bool) (K P : Node → Bool) (T T' : Node → ValType)
+    → TypesPlaces (context_of m F b) (sites_in m F w b) T → TypesPlaces (context_of m F b) (sites_in m F w b) T'
+    → cut_body (callees m) K P T (result_type F) (watched_code w b) ≡ cut_body (callees m) K P T' (result_type F) (watched_code w b)
+one_cut_code m F b h w K P T T' ty ty' =
     let c = context_of m F b in
     let d = watched_code w b in
     let n = length F.results in
     let typed = typed_code c (result_type F) (code_of b.code) w T (typed_body m F b h) (live_body c n d T ty) in
-    ap (λ z. record b { code = list_of (unmarked z) }) (one_cut c K P T T' (F.results ∷ []) (result_type F) d 0 [] typed (live_body c n d T' ty') refl)
+    one_cut c K P T T' (F.results ∷ []) (result_type F) d 0 [] typed (live_body c n d T' ty') refl
+
+pub cut_is_one : CutIsOne
+cut_is_one m F b h w K P T T' ty ty' = ap (λ z. record b { code = list_of (unmarked z) }) (one_cut_code m F b h w K P T T' ty ty')
 
 -- ---- heights
 

@@ -9,7 +9,7 @@ use Rattle.flow_domain.specs.Sliced.{sites_at, ends_at, IsSliced}
 use Rattle.stack_repair.specs.Law.{HasExport, HasCut}
 use Rattle.stack_repair.proofs.Heights.{every_holds}
 
-pub sliced_has_cut : (m : Module) (f i : ℕ) (name : Name) (new : Module) (at : ℕ) → ProperName name → (HasExport m.exports name.bytes → ⊥)
+unfoldable pub sliced_has_cut : (m : Module) (f i : ℕ) (name : Name) (new : Module) (at : ℕ) → ProperName name → (HasExport m.exports name.bytes → ⊥)
     → IsSliced m f i name new at → HasCut m name new
 sliced_has_cut m f i name new at proper free s = record {
   func = f;

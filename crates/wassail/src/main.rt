@@ -16,7 +16,7 @@ fn main(rt: HostRuntime) -> ExitCode {
     ExitCode::from(wassail(rt.alloc(), &words, &mut source, &mut out, &mut err))
 }
 
-// The words after the program's name, or none where one of them isn't text. It fails for want of memory alone.
+// The words after the program's name, or none where one of them isn't text. It fails only where an allocation is refused.
 fn words_after_name(rt: &HostRuntime) -> io::Result<Vec<String>> {
     let mut words = Vec::new(rt.alloc());
     match env::args(rt) {

@@ -1,4 +1,4 @@
--- No answer has the status of a fault or of want of memory, and only refused words have that of refused words.
+-- No answer has the status of a fault or of an allocation that is refused, and only refused words have that of refused words.
 use Rattle.std.proofs.Common.{◌≡◌, ◌≢◌, ◌⊎◌, ◌<◌, ℕ, List, sym, ap, inl, inr, arith, None, Some, Err, subst}
 use Rattle.std.specs.declared.option.Option.{Option}
 use Rattle.wasm_types.specs.declared.module.Module.{Module}
@@ -6,15 +6,14 @@ use Rattle.wasm_decode.specs.Decode.{Decodes}
 use Rattle.wasm_validate.specs.Admission.{Refuses}
 use Rattle.wassail_top.specs.Orders.{Order}
 use Rattle.wassail_top.specs.Orders.Order.{check, rewrite, slice}
-use Rattle.wassail_top.specs.Answers.{Answers, AnswersOrder, AnswersRead, AnswersModule, AnswersAdmitted, IsDue}
-use Rattle.wassail_top.specs.Refusals.{Answer, decode_told_as, admit_told_as, slice_told_as}
-use Rattle.wassail_top.specs.Slices as query
+use Rattle.wassail_top.specs.Answers.{Answers, AnswersOrder, AnswersModule, AnswersAdmitted, IsDue}
+use Rattle.wassail_top.specs.Refusals.{Answer, why_not_decoded, why_not_admitted, why_not_sliced}
+use Rattle.slice_whole.specs.Slices as query
 use Rattle.wassail_top.specs.Words.{order_of}
 use Rattle.wassail_top.specs.Outcome.{ReadFailed, GaveAll}
-use Rattle.wassail_top.proofs.Causes.{decode_status, admit_status, slice_status, status_of_refused}
-use Rattle.wassail_top.proofs.Reading.{as_read}
+use Rattle.wassail_top.proofs.Causes.{module_status, query_status}
 
--- not a fault, not want of memory and not refused words
+-- not a fault, not an allocation that is refused, and not refused words
 pub record IsCalm (status : ℕ) : Type 0 where
   pub known : status ≢ 2
   pub no_read_fault : status ≢ 3
@@ -33,21 +32,18 @@ calm_admitted check m answer h = calm_at answer 0 (ap (λ (a : Answer). a.status
 calm_admitted rewrite m answer h = calm_at answer 0 (ap (λ (a : Answer). a.status) h) (inl (omega arith))
 calm_admitted (slice func at name) m answer (inl unbuilt) = calm_at answer 6 (ap (λ (a : Answer). a.status) unbuilt.1) (inr (omega arith))
 calm_admitted (slice func at name) m answer (inr (flat, inl bad)) =
-    calm_at answer 6 (status_of_refused (query.Refuses m func at name) (slice_told_as func at) 6 answer (slice_status func at) bad) (inr (omega arith))
-calm_admitted (slice func at name) m answer (inr (flat, inr sliced)) = calm_at answer 0 (ap (λ (a : Answer). a.status) sliced.told) (inl (omega arith))
+    calm_at answer 6 (query_status (query.Refuses m func at name) (why_not_sliced func at) answer bad) (inr (omega arith))
+calm_admitted (slice func at name) m answer (inr (flat, inr sliced)) = calm_at answer 0 (ap (λ (a : Answer). a.status) sliced.is) (inl (omega arith))
 
 calm_module : (order : Order) (m : Module) (answer : Answer) → AnswersModule order m answer → IsCalm answer.status
-calm_module order m answer (inl bad) = calm_at answer 1 (status_of_refused (Refuses m) admit_told_as 1 answer admit_status bad) (inl (omega arith))
+calm_module order m answer (inl bad) = calm_at answer 1 (module_status (Refuses m) why_not_admitted answer bad) (inl (omega arith))
 calm_module order m answer (inr (admitted, h)) = calm_admitted order m answer h
 
-calm_read : (order : Order) (old new : Option (List ℕ)) (answer : Answer) → AnswersRead order old new answer → IsCalm answer.status
-calm_read order old new answer (inl long) = calm_at answer 1 (ap (λ (a : Answer). a.status) long.1) (inl (omega arith))
-calm_read order old new answer (inr (bytes, all, short, inl bad)) =
-    calm_at answer 1 (status_of_refused (λ end. Decodes bytes (Err end)) decode_told_as 1 answer decode_status bad) (inl (omega arith))
-calm_read order old new answer (inr (bytes, all, short, inr (m, spells, h))) = calm_module order m answer h
-
 calm_order : (order : Order) (old new : Option (List ℕ)) (answer : Answer) → AnswersOrder order old new answer → IsCalm answer.status
-calm_order order old new answer h = calm_read order old new answer (as_read order old new answer h)
+calm_order order old new answer (inl long) = calm_at answer 1 (ap (λ (a : Answer). a.status) long.1) (inl (omega arith))
+calm_order order old new answer (inr (bytes, all, short, inl bad)) =
+    calm_at answer 1 (module_status (λ end. Decodes bytes (Err end)) why_not_decoded answer bad) (inl (omega arith))
+calm_order order old new answer (inr (bytes, all, short, inr (m, spells, h))) = calm_module order m answer h
 
 -- no answer tells of a fault
 not_fault : (words : List (List ℕ)) (old new : Option (List ℕ)) (answer : Answer) → Answers words old new answer → answer.status ≢ 3
@@ -59,8 +55,8 @@ pub read_failed : (words : List (List ℕ)) (old new : Option (List ℕ)) (befor
     → IsDue words old new before now answer → GaveAll out_old out_new err_old err_new answer → answer.status ≡ 3
     → ReadFailed words old new before now out_old out_new err_old err_new
 read_failed words old new before now x y z w answer (inl h) gave e = absurd (not_fault words old new answer h e)
-read_failed words old new before now x y z w answer (inr (order, named, reads, failed, same)) gave e =
-    record { order = order; named = named; reads = reads; failed = failed; gave = subst (λ (a : Answer). GaveAll x y z w a) same gave }
+read_failed words old new before now x y z w answer (inr (order, named, failed, same)) gave e =
+    record { order = order; named = named; failed = failed; gave = subst (λ (a : Answer). GaveAll x y z w a) same gave }
 
 -- words that are no command have one answer
 pub refused_words : (words : List (List ℕ)) (old new : Option (List ℕ)) (before now : ℕ) (answer : Answer)
@@ -74,4 +70,4 @@ pub only_refused_words : (words : List (List ℕ)) (old new : Option (List ℕ))
 only_refused_words words old new before now answer (inl (inl h)) e = h.0
 only_refused_words words old new before now answer (inl (inr (order, named, h))) e = absurd ((calm_order order old new answer h).known e)
 only_refused_words words old new before now answer (inr failed) e =
-    let three : answer.status ≡ 3 = ap (λ (a : Answer). a.status) failed.4 in absurd (omega arith)
+    let three : answer.status ≡ 3 = ap (λ (a : Answer). a.status) failed.3 in absurd (omega arith)

@@ -8,56 +8,43 @@ use Rattle.wasm_types.specs.declared.module.DataSegment.{DataSegment}
 use Rattle.wasm_types.specs.declared.module.Module.{Module}
 use Rattle.wasm_types.specs.Code.{code_of, nest}
 use Rattle.wasm_types.specs.Canon.{canon}
-use Rattle.wasm_types.specs.Subset.{NestsAtMost, most_nesting}
+use Rattle.wasm_types.specs.Subset.{InSubset, most_nesting}
 use Rattle.wasm_types.proofs.LeastLemmas.{canon_is_least}
 use Rattle.wasm_decode.specs.Decode.{Decodes}
 use Rattle.wasm_validate.specs.Admission as admission
-use Rattle.wassail_top.specs.Answers.{AnswersOrder, AnswersRead, AnswersBytes, IsDue, most_bytes, name_of}
-use Rattle.wassail_top.specs.Flat.{IsFlat}
+use Rattle.wassail_top.specs.Answers.{AnswersOrder, AnswersBytes, IsDue, most_bytes, name_of}
+use Rattle.slice_whole.specs.Flat.{IsFlat}
 use Rattle.wassail_top.specs.Headline.{SliceHolds}
 use Rattle.wassail_top.specs.Orders.{Order}
 use Rattle.wassail_top.specs.Orders.Order.{slice}
 use Rattle.wassail_top.specs.Outcome.{GaveAll}
-use Rattle.wassail_top.specs.Refusals.{Answer, decode_told_as, admit_told_as, slice_told_as}
-use Rattle.wassail_top.specs.SliceLaws.{IsNamedSlice, NestsNone}
-use Rattle.wassail_top.specs.Sliced.{IsSliced}
-use Rattle.wassail_top.specs.Slices.{Refuses}
+use Rattle.wassail_top.specs.Refusals.{Answer, why_not_decoded, why_not_admitted, why_not_sliced}
+use Rattle.flow_domain.specs.Sliced.{IsSliced}
+use Rattle.slice_whole.specs.Slices.{Refuses}
 use Rattle.wassail_top.specs.Words.{order_of}
-use Rattle.wassail_top.proofs.Causes.{decode_status, admit_status, slice_status, status_of_refused}
-use Rattle.wassail_top.proofs.Follows.{slice_follows}
-use Rattle.wassail_top.proofs.NamedSlice.{named}
-use Rattle.wassail_top.proofs.SlicedLaws.{slice_valid, slice_spelled}
-
--- what a slice has no more of than its original
-none_more : {A : Type 0} (P : A → Type 0) (xs ys : List A) → xs ≡ ys → ys ≡ [] → All P xs
-none_more P xs ys e z = subst (All P) (sym (e ∙ z)) (λ k d lt. absurd (omega arith))
-
-within_limit : (m : Module) (f i : ℕ) (name : List ℕ) (new : Module) (at : ℕ) → IsFlat m → IsSliced m f i (name_of name) new at → NestsNone new → NestsAtMost most_nesting new
-within_limit m f i name new at flat s none = record {
-  globals = none_more (λ (g : GlobalDef). nest (code_of g.init) ≤ most_nesting) new.globals m.globals (ap (λ (x : Module). x.globals) s.is) flat.only.no_globals;
-  elems = none_more (λ (e : Elem). nest (code_of e.offset) ≤ most_nesting) new.elems m.elems (ap (λ (x : Module). x.elems) s.is) flat.only.no_elements;
-  bodies = λ k d lt. let e = none k d lt in omega arith;
-  segments = none_more (λ (d : DataSegment). nest (code_of d.offset) ≤ most_nesting) new.segments m.segments (ap (λ (x : Module). x.segments) s.is) flat.only.no_data;
-}
+use Rattle.wassail_top.proofs.Causes.{module_status, query_status}
+use Rattle.stack_repair.proofs.Slices.{sliced_has_cut}
+use Rattle.stack_repair.proofs.Appended.{slice_is_valid, slice_is_spelled}
 
 holds : (f i : ℕ) (name : List ℕ) (bytes : List ℕ) (left_old left_new out_old out_new err_old err_new : Option (List ℕ)) (answer : Answer)
     → TookAll left_old left_new bytes → length bytes ≤ most_bytes → AnswersBytes (slice f i name) bytes answer → answer.status ≡ 0 → GaveAll out_old out_new err_old err_new answer
     → SliceHolds f i name left_old left_new out_old out_new err_old err_new
 holds f i name bytes left_old left_new out_old out_new err_old err_new answer took short (inl bad) zero gave =
-    let one : answer.status ≡ 1 = status_of_refused (λ end. Decodes bytes (Err end)) decode_told_as 1 answer decode_status bad in absurd (omega arith)
+    let one : answer.status ≡ 1 = module_status (λ end. Decodes bytes (Err end)) why_not_decoded answer bad in absurd (omega arith)
 holds f i name bytes left_old left_new out_old out_new err_old err_new answer took short (inr (form, decodes, inl bad)) zero gave =
-    let one : answer.status ≡ 1 = status_of_refused (admission.Refuses form) admit_told_as 1 answer admit_status bad in absurd (omega arith)
+    let one : answer.status ≡ 1 = module_status (admission.Refuses form) why_not_admitted answer bad in absurd (omega arith)
 holds f i name bytes left_old left_new out_old out_new err_old err_new answer took short (inr (form, decodes, inr (admitted, inl unbuilt))) zero gave =
     let six : answer.status ≡ 6 = ap (λ (a : Answer). a.status) unbuilt.1 in absurd (omega arith)
 holds f i name bytes left_old left_new out_old out_new err_old err_new answer took short (inr (form, decodes, inr (admitted, inr (flat, inl bad)))) zero gave =
-    let six : answer.status ≡ 6 = status_of_refused (Refuses form f i name) (slice_told_as f i) 6 answer (slice_status f i) bad in absurd (omega arith)
+    let six : answer.status ≡ 6 = query_status (Refuses form f i name) (why_not_sliced f i) answer bad in absurd (omega arith)
 holds f i name bytes left_old left_new out_old out_new err_old err_new answer took short (inr (form, decodes, inr (admitted, inr (flat, inr s)))) zero gave =
-    let h : IsNamedSlice form (name_of name) s.new = named form f i name s.new s.at flat s.sliced s.proper s.free in
-    let valid = slice_valid form (name_of name) s.new h in
+    let h = sliced_has_cut form f i (name_of name) s.new s.at s.proper s.free s.sliced in
+    let sub : InSubset form = record { no_float = admitted.no_float; limits = admitted.limits; nesting = decodes.1 } in
+    let valid = slice_is_valid form (name_of name) s.new admitted.valid sub h in
     let few : length (canon form) ≤ length bytes = canon_is_least bytes form decodes.0 in
     let name_short = s.short in
-    let spelled = slice_spelled form (name_of name) s.new h (omega arith) (omega arith) in
-    let given = subst (λ (a : Answer). GaveAll out_old out_new err_old err_new a) s.told gave in
+    let spelled = slice_is_spelled form (name_of name) s.new admitted.valid sub h (omega arith) (omega arith) in
+    let given = subst (λ (a : Answer). GaveAll out_old out_new err_old err_new a) s.is gave in
     record {
       bytes = bytes;
       took = took;
@@ -69,16 +56,15 @@ holds f i name bytes left_old left_new out_old out_new err_old err_new answer to
       out = given.out;
       err = given.err;
       valid = valid.0;
-      itself = record { decodes = (spelled.1, within_limit form f i name s.new s.at flat s.sliced valid.2); alone = spelled.2 };
-      follows = slice_follows form flat f i (name_of name) s.new s.at s.sliced;
+      itself = record { decodes = (spelled.1, valid.3 most_nesting sub.nesting); alone = spelled.2 };
     }
 
-of_read : (f i : ℕ) (name : List ℕ) (left_old left_new out_old out_new err_old err_new : Option (List ℕ)) (answer : Answer)
-    → AnswersRead (slice f i name) left_old left_new answer → answer.status ≡ 0 → GaveAll out_old out_new err_old err_new answer
+of_order : (f i : ℕ) (name : List ℕ) (left_old left_new out_old out_new err_old err_new : Option (List ℕ)) (answer : Answer)
+    → AnswersOrder (slice f i name) left_old left_new answer → answer.status ≡ 0 → GaveAll out_old out_new err_old err_new answer
     → SliceHolds f i name left_old left_new out_old out_new err_old err_new
-of_read f i name left_old left_new out_old out_new err_old err_new answer (inl long) zero gave =
+of_order f i name left_old left_new out_old out_new err_old err_new answer (inl long) zero gave =
     let one : answer.status ≡ 1 = ap (λ (a : Answer). a.status) long.1 in absurd (omega arith)
-of_read f i name left_old left_new out_old out_new err_old err_new answer (inr (bytes, took, short, h)) zero gave =
+of_order f i name left_old left_new out_old out_new err_old err_new answer (inr (bytes, took, short, h)) zero gave =
     holds f i name bytes left_old left_new out_old out_new err_old err_new answer took short h zero gave
 
 pub headline : (words : List (List ℕ)) (f i : ℕ) (name : List ℕ) (left_old left_new : Option (List ℕ)) (before now : ℕ) (out_old out_new err_old err_new : Option (List ℕ)) (answer : Answer)
@@ -88,6 +74,6 @@ headline words f i name left_old left_new before now out_old out_new err_old err
     let two : answer.status ≡ 2 = ap (λ (a : Answer). a.status) h.1 in absurd (omega arith)
 headline words f i name left_old left_new before now out_old out_new err_old err_new answer order (inl (inr (other, named_so, h))) zero gave =
     let same : other ≡ slice f i name = (let e : Some other ≡ Some (slice f i name) = sym named_so ∙ order in cc) in
-    of_read f i name left_old left_new out_old out_new err_old err_new answer (subst (λ (o : Order). AnswersOrder o left_old left_new answer) same h) zero gave
+    of_order f i name left_old left_new out_old out_new err_old err_new answer (subst (λ (o : Order). AnswersOrder o left_old left_new answer) same h) zero gave
 headline words f i name left_old left_new before now out_old out_new err_old err_new answer order (inr failed) zero gave =
-    let three : answer.status ≡ 3 = ap (λ (a : Answer). a.status) failed.4 in absurd (omega arith)
+    let three : answer.status ≡ 3 = ap (λ (a : Answer). a.status) failed.3 in absurd (omega arith)

@@ -1,14 +1,15 @@
--- Words and told bytes have one answer.
+-- Words and the bytes of a source have at most one answer.
 use Rattle.std.proofs.Common.{◌≡◌, ◌≤◌, ℕ, List, length, sym, ◌∙◌, subst, inl, inr, None, Some, Err}
 use Rattle.std.specs.declared.option.Option.{Option}
+use Rattle.report_text.specs.declared.refusal.Refusal.TheVariants as refusal
 use Rattle.wasm_types.specs.declared.module.Module.{Module}
 use Rattle.wasm_types.proofs.ModuleLemmas.{one_module}
 use Rattle.wasm_decode.specs.Decode.{Decodes}
 use Rattle.wasm_validate.specs.Admission.{Refuses}
-use Rattle.wassail_top.specs.Answers.{Answers, AnswersOrder, AnswersRead, AnswersBytes, AnswersModule, AnswersAdmitted, most_bytes}
+use Rattle.wassail_top.specs.Answers.{Answers, AnswersOrder, AnswersBytes, AnswersModule, AnswersAdmitted, most_bytes}
 use Rattle.wassail_top.specs.Orders.{Order}
 use Rattle.wassail_top.specs.Orders.Order.{check, rewrite, slice}
-use Rattle.wassail_top.specs.Refusals.{Answer, decode_told_as, admit_told_as}
+use Rattle.wassail_top.specs.Refusals.{Answer, why_not_decoded, why_not_admitted}
 use Rattle.wassail_top.specs.Words.{order_of}
 use Rattle.wassail_top.proofs.Causes.{one_refused}
 use Rattle.wassail_top.proofs.OneAdmission as admission
@@ -16,7 +17,7 @@ use Rattle.wassail_top.proofs.OneAdmission.{admitted_not_refused}
 use Rattle.wassail_top.proofs.OneDecoding as decoding
 use Rattle.wassail_top.proofs.OneDecoding.{decoded_not_refused}
 use Rattle.wassail_top.proofs.OneSlice.{one_slice}
-use Rattle.wassail_top.proofs.Reading.{as_read, all_taken, not_long}
+use Rattle.wassail_top.proofs.Reading.{all_taken, not_long}
 
 of_admitted : (order : Order) (m : Module) (a b : Answer) → AnswersAdmitted order m a → AnswersAdmitted order m b → a ≡ b
 of_admitted check m a b p q = p ∙ sym q
@@ -24,24 +25,24 @@ of_admitted rewrite m a b p q = p ∙ sym q
 of_admitted (slice func at name) m a b p q = one_slice func at name m a b p q
 
 of_module : (order : Order) (m : Module) (a b : Answer) → AnswersModule order m a → AnswersModule order m b → a ≡ b
-of_module order m a b (inl p) (inl q) = one_refused (Refuses m) admit_told_as a b (admission.one_end m) p q
+of_module order m a b (inl p) (inl q) = one_refused refusal.Module (Refuses m) why_not_admitted a b (admission.one_end m) p q
 of_module order m a b (inl p) (inr q) = absurd (admitted_not_refused m a q.0 p)
 of_module order m a b (inr p) (inl q) = absurd (admitted_not_refused m b p.0 q)
 of_module order m a b (inr p) (inr q) = of_admitted order m a b p.1 q.1
 
 of_bytes : (order : Order) (bytes : List ℕ) (a b : Answer) → AnswersBytes order bytes a → AnswersBytes order bytes b → a ≡ b
-of_bytes order bytes a b (inl p) (inl q) = one_refused (λ end. Decodes bytes (Err end)) decode_told_as a b (decoding.one_end bytes) p q
+of_bytes order bytes a b (inl p) (inl q) = one_refused refusal.Module (λ end. Decodes bytes (Err end)) why_not_decoded a b (decoding.one_end bytes) p q
 of_bytes order bytes a b (inl p) (inr q) = absurd (decoded_not_refused bytes q.0 a q.1 p)
 of_bytes order bytes a b (inr p) (inl q) = absurd (decoded_not_refused bytes p.0 b p.1 q)
 of_bytes order bytes a b (inr p) (inr q) =
     of_module order p.0 a b p.2 (subst (λ m. AnswersModule order m b) (sym (one_module bytes p.0 q.0 p.1.0 q.1.0)) q.2)
 
-of_read : (order : Order) (bytes : List ℕ) (x y : Option (List ℕ)) (a b : Answer)
-    → AnswersRead order (Some bytes) x a → AnswersRead order (Some bytes) y b → a ≡ b
-of_read order bytes x y a b (inl p) (inl q) = p.1 ∙ sym q.1
-of_read order bytes x y a b (inl p) (inr q) = absurd (not_long bytes x p.0 (subst (λ l. length l ≤ most_bytes) (all_taken bytes y q.0 q.1) q.2))
-of_read order bytes x y a b (inr p) (inl q) = absurd (not_long bytes y q.0 (subst (λ l. length l ≤ most_bytes) (all_taken bytes x p.0 p.1) p.2))
-of_read order bytes x y a b (inr p) (inr q) =
+of_order : (order : Order) (bytes : List ℕ) (x y : Option (List ℕ)) (a b : Answer)
+    → AnswersOrder order (Some bytes) x a → AnswersOrder order (Some bytes) y b → a ≡ b
+of_order order bytes x y a b (inl p) (inl q) = p.1 ∙ sym q.1
+of_order order bytes x y a b (inl p) (inr q) = absurd (not_long bytes x p.0 (subst (λ l. length l ≤ most_bytes) (all_taken bytes y q.0 q.1) q.2))
+of_order order bytes x y a b (inr p) (inl q) = absurd (not_long bytes y q.0 (subst (λ l. length l ≤ most_bytes) (all_taken bytes x p.0 p.1) p.2))
+of_order order bytes x y a b (inr p) (inr q) =
     let same : p.0 ≡ q.0 = all_taken bytes x p.0 p.1 ∙ sym (all_taken bytes y q.0 q.1) in
     of_bytes order p.0 a b p.3 (subst (λ l. AnswersBytes order l b) (sym same) q.3)
 
@@ -56,4 +57,4 @@ one_answer words bytes x y a b (inr p) (inr q) =
     let first : order_of words ≡ Some p.0 = p.1 in
     let second : order_of words ≡ Some q.0 = q.1 in
     let same : p.0 ≡ q.0 = cc in
-    of_read p.0 bytes x y a b (as_read p.0 (Some bytes) x a p.2) (as_read p.0 (Some bytes) y b (subst (λ c. AnswersOrder c (Some bytes) y b) (sym same) q.2))
+    of_order p.0 bytes x y a b p.2 (subst (λ c. AnswersOrder c (Some bytes) y b) (sym same) q.2)

@@ -8,19 +8,22 @@ use Rattle.wasm_types.specs.declared.module.Body.{Body}
 use Rattle.wasm_types.specs.declared.module.Module.{Module}
 use Rattle.wasm_types.specs.Code.{code_of, count, list_of}
 use Rattle.wasm_types.specs.Marked.{unmarked, watched_at}
-use Rattle.wasm_meaning.specs.Actions.{callees}
-use Rattle.report_text.specs.declared.report.Report.{Report}
-use Rattle.wassail_top.specs.declared.slice.SliceRefusal.{SliceRefusal}
-use Rattle.wassail_top.specs.declared.slice.SliceRefusal.TheVariants as cause
+use Rattle.wasm_types.specs.Actions.{callees}
+use Rattle.report_text.specs.declared.refusal.Refusal.TheVariants as refusal
+use Rattle.report_text.specs.declared.refusal.QueryRefusal.{QueryRefusal}
+use Rattle.slice_whole.specs.declared.slicing.SliceRefusal.{SliceRefusal}
+use Rattle.slice_whole.specs.declared.slicing.SliceRefusal.TheVariants as cause
 use Rattle.wassail_top.specs.Answers.{IsSlicedAs, AnswersFlat, AnswersSlice, name_of, slice_answer}
-use Rattle.wassail_top.specs.Flat.{IsFlat}
-use Rattle.wassail_top.specs.Kept.{Tells}
-use Rattle.wassail_top.specs.Nodes.{Node}
-use Rattle.wassail_top.specs.Refusals.{Answer, slice_told_as}
-use Rattle.wassail_top.specs.Sliced.{func_count, KeptAt, cut_of, appended, IsSliced}
-use Rattle.wassail_top.specs.Slices.{HasPositions, Refuses}
+use Rattle.slice_whole.specs.Flat.{IsFlat}
+use Rattle.flow_domain.specs.Kept.{Tells}
+use Rattle.wasm_types.specs.declared.place.Node.{Node}
+use Rattle.wassail_top.specs.Refusals.{Answer, why_not_sliced}
+use Rattle.flow_domain.specs.Sliced.{func_count, KeptAt, cut_of, appended, IsSliced}
+use Rattle.slice_whole.specs.Slices.{HasPositions, Refuses}
+use Rattle.slice_whole.proofs.OneSliced.{one_sliced, sliced_there}
+use Rattle.wassail_top.proofs.FlatAdmitted.{flat_admitted}
 use Rattle.wassail_top.proofs.Causes.{one_refused}
-use Rattle.wassail_top.proofs.FlatSlice.{own_count, of_own}
+use Rattle.slice_whole.proofs.FlatSlice.{own_count, of_own}
 
 -- a function with a body is one of the module's
 has_func : (m : Module) (f n : ℕ) → IsFlat m → HasPositions m f n → f < func_count m
@@ -37,7 +40,7 @@ one_count m f n k (b, at, is) (d, there, counted) =
 
 -- ---- refusals
 
-one_cause : (m : Module) (f i : ℕ) (name : List ℕ) (c d : SliceRefusal) (r s : Report) → IsFlat m → Refuses m f i name c → Refuses m f i name d → slice_told_as f i c ≡ Some r → slice_told_as f i d ≡ Some s → c ≡ d
+one_cause : (m : Module) (f i : ℕ) (name : List ℕ) (c d : SliceRefusal) (r s : QueryRefusal) → IsFlat m → Refuses m f i name c → Refuses m f i name d → why_not_sliced f i c ≡ Some r → why_not_sliced f i d ≡ Some s → c ≡ d
 one_cause m f i name cause.NoFunction cause.NoFunction r s flat p q told told' = refl
 one_cause m f i name cause.NoFunction (cause.NoInstruction n) r s flat p q told told' = let lt = has_func m f n flat q.0 in absurd (omega arith)
 one_cause m f i name cause.NoFunction cause.NameTaken r s flat p q told told' = let lt = has_func m f q.0.0 flat q.0.1 in absurd (omega arith)
@@ -58,48 +61,22 @@ sliced_positions : (m : Module) (f i : ℕ) (name : List ℕ) (new : Module) (at
 sliced_positions m f i name new at flat s = (s.body, of_own m m.bodies f s.body flat.only.no_imports s.has_body, refl)
 
 -- what is sliced isn't refused
-not_both : (m : Module) (f i : ℕ) (name : List ℕ) (c : SliceRefusal) (r : Report) (answer : Answer) → IsFlat m → Refuses m f i name c → slice_told_as f i c ≡ Some r → IsSlicedAs m f i name answer → ⊥
+not_both : (m : Module) (f i : ℕ) (name : List ℕ) (c : SliceRefusal) (r : QueryRefusal) (answer : Answer) → IsFlat m → Refuses m f i name c → why_not_sliced f i c ≡ Some r → IsSlicedAs m f i name answer → ⊥
 not_both m f i name cause.NoFunction r answer flat p told s =
     let lt = has_func m f (count (code_of s.sliced.body.code)) flat (sliced_positions m f i name s.new s.at flat s.sliced) in omega arith
 not_both m f i name (cause.NoInstruction n) r answer flat p told s =
     let same = one_count m f n (count (code_of s.sliced.body.code)) p.0 (sliced_positions m f i name s.new s.at flat s.sliced) in
-    let lt = s.sliced.there in let le = p.1 in omega arith
+    let lt = sliced_there m f i (name_of name) s.new s.at flat s.sliced in let le = p.1 in omega arith
 not_both m f i name cause.NameTaken r answer flat p told s = s.free p.1
 not_both m f i name cause.Memory r answer flat p told s = absurd cc
 
--- two tests of one set are one
-same_bool : (a b : Bool) → (a ≡ true → b ≡ true) → (b ≡ true → a ≡ true) → a ≡ b
-same_bool true true p q = refl
-same_bool true false p q = sym (p refl)
-same_bool false true p q = q refl
-same_bool false false p q = refl
-
-one_test : (K L : Node → Bool) (Is : Node → Type 0) → Tells K Is → Tells L Is → K ≡ L
-one_test K L Is k l = fun_ext (λ n. same_bool (K n) (L n) (λ h. (l n).1 ((k n).0 h)) (λ h. (k n).1 ((l n).0 h)))
-
-one_sliced : (m : Module) (f i : ℕ) (name : List ℕ) (new other : Module) (at to : ℕ) → IsSliced m f i (name_of name) new at → IsSliced m f i (name_of name) other to → (new ≡ other) × (at ≡ to)
-one_sliced m f i name new other at to p q =
-    let type : p.type ≡ q.type = (let e : Some p.type ≡ Some q.type = sym p.own.1 ∙ q.own.1 in cc) in
-    let kind : p.kind ≡ q.kind = (let e : Some p.kind ≡ Some q.kind = sym p.kind_is ∙ ap (slice_get m.types) type ∙ q.kind_is in cc) in
-    let body : p.body ≡ q.body = (let e : Some p.body ≡ Some q.body = sym p.has_body.1 ∙ q.has_body.1 in cc) in
-    let kept : p.kept ≡ q.kept =
-    one_test p.kept q.kept (KeptAt (callees m) p.kind p.body i) p.exact
-    (subst (λ (b : Body). Tells q.kept (KeptAt (callees m) p.kind b i)) (sym body) (subst (λ (t : FuncType). Tells q.kept (KeptAt (callees m) t q.body i)) (sym kind) q.exact)) in
-    let cut : cut_of (callees m) p.kept p.kind p.body i ≡ cut_of (callees m) q.kept q.kind q.body i =
-    ap (λ (K : Node → Bool). cut_of (callees m) K p.kind p.body i) kept ∙ ap (λ (t : FuncType). cut_of (callees m) q.kept t p.body i) kind ∙ ap (λ (b : Body). cut_of (callees m) q.kept q.kind b i) body in
-    let whole : (let x : Body = record p.body { code = list_of (unmarked (cut_of (callees m) p.kept p.kind p.body i)) } in x) ≡ (let y : Body = record q.body { code = list_of (unmarked (cut_of (callees m) q.kept q.kind q.body i)) } in y) =
-    ap (λ (c : _). (let x : Body = record p.body { code = list_of (unmarked c) } in x)) cut ∙ ap (λ (b : Body). (let x : Body = record b { code = list_of (unmarked (cut_of (callees m) q.kept q.kind q.body i)) } in x)) body in (
-      p.is ∙ ap (λ (t : ℕ). appended m t (record p.body { code = list_of (unmarked (cut_of (callees m) p.kept p.kind p.body i)) }) (name_of name)) type ∙ ap (λ (b : Body). appended m q.type b (name_of name)) whole ∙ sym q.is,
-      p.at_is ∙ ap watched_at cut ∙ sym q.at_is,
-    )
-
 one_flat : (f i : ℕ) (name : List ℕ) (m : Module) (a b : Answer) → IsFlat m → AnswersFlat f i name m a → AnswersFlat f i name m b → a ≡ b
-one_flat f i name m a b flat (inl p) (inl q) = one_refused (Refuses m f i name) (slice_told_as f i) a b (λ c d r s. one_cause m f i name c d r s flat) p q
+one_flat f i name m a b flat (inl p) (inl q) = one_refused refusal.Query (Refuses m f i name) (why_not_sliced f i) a b (λ c d r s. one_cause m f i name c d r s flat) p q
 one_flat f i name m a b flat (inl p) (inr s) = absurd (not_both m f i name p.0 p.1 b flat p.2 p.3 s)
 one_flat f i name m a b flat (inr s) (inl q) = absurd (not_both m f i name q.0 q.1 a flat q.2 q.3 s)
 one_flat f i name m a b flat (inr s) (inr t) =
-    let same = one_sliced m f i name s.new t.new s.at t.at s.sliced t.sliced in
-    s.told ∙ ap (λ (n : Module). slice_answer n (func_count m) s.at) same.0 ∙ ap (slice_answer t.new (func_count m)) same.1 ∙ sym t.told
+    let same = one_sliced m f i (name_of name) s.new t.new s.at t.at flat.valid (flat_admitted m flat).no_float s.sliced t.sliced in
+    s.is ∙ ap (λ (n : Module). slice_answer n (func_count m) s.at) same.0 ∙ ap (slice_answer t.new (func_count m)) same.1 ∙ sym t.is
 
 pub one_slice : (f i : ℕ) (name : List ℕ) (m : Module) (a b : Answer) → AnswersSlice f i name m a → AnswersSlice f i name m b → a ≡ b
 one_slice f i name m a b (inl p) (inl q) = p.1 ∙ sym q.1

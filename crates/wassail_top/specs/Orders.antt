@@ -14,12 +14,6 @@ order_read Check = check
 order_read Rewrite = rewrite
 order_read (Slice func at name) = slice func at (string_bytes name)
 
--- the command reads a module
-abbrev pub IsReader : Order → Type 0
-IsReader check = ⊤
-IsReader rewrite = ⊤
-IsReader (slice func at name) = ⊤
-
 -- the greatest number of bytes of a name
 abbrev pub most_name_bytes : ℕ
 most_name_bytes = 65536

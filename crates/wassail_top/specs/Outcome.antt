@@ -3,9 +3,9 @@ use Rattle.std.specs.Prelude.{◌≡◌, ◌⊎◌, ℕ, List, Some}
 use Rattle.std.specs.declared.option.Option.{Option}
 use Rattle.std.specs.Io.KnownBytes.{Appends, Keeps}
 use Rattle.outside_io.specs.Whole.{GavePrefix}
-use Rattle.report_text.specs.declared.report.Report.TheVariants.{ReadFault}
+use Rattle.report_text.specs.declared.refusal.Refusal.TheVariants as refusal
 use Rattle.wassail_top.specs.Answers.{Answers, IsDue, FailedToRead}
-use Rattle.wassail_top.specs.Orders.{Order, IsReader}
+use Rattle.wassail_top.specs.Orders.{Order}
 use Rattle.wassail_top.specs.Refusals.{Answer, refused}
 use Rattle.wassail_top.specs.Words.{order_of}
 
@@ -27,13 +27,12 @@ pub record Answered (words : List (List ℕ)) (left_old left_new out_old out_new
   pub same : status ≡ answer.status
   pub gave : GaveAll out_old out_new err_old err_new answer
 
--- The words are a command that reads a module, the source failed, and err gained the line that tells of it.
+-- The words are a command, the source failed, and err gained the line that tells of it.
 pub record ReadFailed (words : List (List ℕ)) (left_old left_new : Option (List ℕ)) (faults_old faults_new : ℕ) (out_old out_new err_old err_new : Option (List ℕ)) : Type 0 where
   pub order : Order
   pub named : order_of words ≡ Some order
-  pub reads : IsReader order
   pub failed : FailedToRead left_old left_new faults_old faults_new
-  pub gave : GaveAll out_old out_new err_old err_new (refused ReadFault)
+  pub gave : GaveAll out_old out_new err_old err_new (refused refusal.ReadFailed)
 
 -- Out and err gained fronts of what was due.
 pub record WriteFailed (words : List (List ℕ)) (left_old left_new : Option (List ℕ)) (faults_old faults_new : ℕ) (out_old out_new err_old err_new : Option (List ℕ)) : Type 0 where

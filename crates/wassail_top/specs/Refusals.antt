@@ -1,14 +1,17 @@
 -- What the program writes where there is no answer (docs/COMMANDS.md).
 use Rattle.std.specs.Prelude.{◌≡◌, ℕ, List, [], Option, Some, None}
-use Rattle.report_text.specs.declared.report.Report.{Report}
-use Rattle.report_text.specs.declared.report.Report.TheVariants.{Header, Frame, Section, TooDeep, Counts, Float, Limit, Invalid, NoFunction, NoInstruction, NameTaken}
-use Rattle.report_text.specs.Lines.{refusal_line}
+use Rattle.report_text.specs.declared.refusal.Refusal.{Refusal}
+use Rattle.report_text.specs.declared.refusal.ModuleRefusal.{ModuleRefusal}
+use Rattle.report_text.specs.declared.refusal.ModuleRefusal.TheVariants as of_module
+use Rattle.report_text.specs.declared.refusal.QueryRefusal.{QueryRefusal}
+use Rattle.report_text.specs.declared.refusal.QueryRefusal.TheVariants as of_query
+use Rattle.report_text.specs.Texts.{refusal_line}
 use Rattle.wasm_decode.specs.declared.refusal.DecodeEnd.{DecodeEnd}
 use Rattle.wasm_decode.specs.declared.refusal.DecodeEnd.TheVariants as decode
 use Rattle.wasm_validate.specs.declared.refusal.AdmitEnd.{AdmitEnd}
 use Rattle.wasm_validate.specs.declared.refusal.AdmitEnd.TheVariants as admit
-use Rattle.wassail_top.specs.declared.slice.SliceRefusal.{SliceRefusal}
-use Rattle.wassail_top.specs.declared.slice.SliceRefusal.TheVariants as slice
+use Rattle.slice_whole.specs.declared.slicing.SliceRefusal.{SliceRefusal}
+use Rattle.slice_whole.specs.declared.slicing.SliceRefusal.TheVariants as slice
 use Rattle.wassail_top.specs.Statuses.{refusal_status}
 
 -- a status, and what out and err get
@@ -18,32 +21,36 @@ pub record Answer : Type 0 where
   pub err : List ℕ
 
 -- one line on err, and nothing on out
-abbrev pub refused : Report → Answer
-refused report = record { status = refusal_status report; out = []; err = refusal_line report }
+abbrev pub refused : Refusal → Answer
+refused refusal = record { status = refusal_status refusal; out = []; err = refusal_line refusal }
 
--- one of the causes holds, and the answer is what it is told as
-abbrev pub IsRefused : {Cause : Type 0} → (Cause → Type 0) → (Cause → Option Report) → Answer → Type 0
-IsRefused {Cause} Holds told_as answer = (cause : Cause) × (report : Report) × Holds cause × (told_as cause ≡ Some report) × (answer ≡ refused report)
+-- A cause holds that has a refusal, and the answer is that refusal, as one of a class. A cause without a refusal is that an allocation was refused.
+abbrev pub IsRefused : {Cause Why : Type 0} → (Why → Refusal) → (Cause → Type 0) → (Cause → Option Why) → Answer → Type 0
+IsRefused {Cause} {Why} class Holds why_of answer = (cause : Cause) × (why : Why) × Holds cause × (why_of cause ≡ Some why) × (answer ≡ refused (class why))
 
--- what a refusal of the decoder is told as; want of memory is none
-abbrev pub decode_told_as : DecodeEnd → Option Report
-decode_told_as decode.Header = Some Header
-decode_told_as (decode.Frame k) = Some (Frame k)
-decode_told_as (decode.Section k id) = Some (Section k id)
-decode_told_as (decode.TooDeep id entry) = Some (TooDeep id entry)
-decode_told_as decode.Counts = Some Counts
-decode_told_as decode.Memory = None
+-- no cause holds that has a refusal
+abbrev pub HasNoRefusal : {Cause Why : Type 0} → (Cause → Type 0) → (Cause → Option Why) → Type 0
+HasNoRefusal {Cause} {Why} Holds why_of = (cause : Cause) (why : Why) → Holds cause → why_of cause ≡ Some why → ⊥
 
--- what a refusal to admit a module is told as; want of memory is none
-abbrev pub admit_told_as : AdmitEnd → Option Report
-admit_told_as (admit.Float part) = Some (Float part)
-admit_told_as (admit.Limit which at count) = Some (Limit which at count)
-admit_told_as (admit.Invalid part) = Some (Invalid part)
-admit_told_as admit.Memory = None
+-- why bytes are refused that do not decode
+abbrev pub why_not_decoded : DecodeEnd → Option ModuleRefusal
+why_not_decoded decode.Header = Some of_module.NoHeader
+why_not_decoded (decode.Frame k) = Some (of_module.NoFrame k)
+why_not_decoded (decode.Section k id) = Some (of_module.DoesNotRead k id)
+why_not_decoded (decode.TooDeep id entry) = Some (of_module.TooDeep id entry)
+why_not_decoded decode.Counts = Some of_module.Counts
+why_not_decoded decode.Memory = None
 
--- what a refusal to slice at position i of function f is told as; want of memory is none
-abbrev pub slice_told_as : ℕ → ℕ → SliceRefusal → Option Report
-slice_told_as f i slice.NoFunction = Some (NoFunction f)
-slice_told_as f i (slice.NoInstruction count) = Some (NoInstruction i count)
-slice_told_as f i slice.NameTaken = Some NameTaken
-slice_told_as f i slice.Memory = None
+-- why a module is refused that is not admitted
+abbrev pub why_not_admitted : AdmitEnd → Option ModuleRefusal
+why_not_admitted (admit.Float part) = Some (of_module.Float part)
+why_not_admitted (admit.Limit which at count) = Some (of_module.Limit which at count)
+why_not_admitted (admit.Invalid part) = Some (of_module.Invalid part)
+why_not_admitted admit.Memory = None
+
+-- why a slice at position i of function f is refused
+abbrev pub why_not_sliced : ℕ → ℕ → SliceRefusal → Option QueryRefusal
+why_not_sliced f i slice.NoFunction = Some (of_query.NoFunction f)
+why_not_sliced f i (slice.NoInstruction count) = Some (of_query.NoInstruction i count)
+why_not_sliced f i slice.NameTaken = Some of_query.NameTaken
+why_not_sliced f i slice.Memory = None

@@ -1,7 +1,7 @@
 -- The exit status of each way to end, and of each refusal (docs/COMMANDS.md).
 use Rattle.std.specs.Prelude.{ℕ}
-use Rattle.report_text.specs.declared.report.Report.{Report}
-use Rattle.report_text.specs.declared.report.Report.TheVariants as report
+use Rattle.report_text.specs.declared.refusal.Refusal.{Refusal}
+use Rattle.report_text.specs.declared.refusal.Refusal.TheVariants as refusal
 use Rattle.wassail_top.specs.declared.status.Status.{Status}
 use Rattle.wassail_top.specs.declared.status.Status.TheVariants.{Answered, ModuleRefused, WordsRefused, ReadFailed, WriteFailed, NoMemory, QueryRefused}
 
@@ -14,20 +14,9 @@ status_code WriteFailed = 4
 status_code NoMemory = 5
 status_code QueryRefused = 6
 
--- the status of a refusal: of words, of a failed read, of a module, or of a query about a module
-abbrev pub refusal_status : Report → ℕ
-refusal_status report.Words = 2
-refusal_status report.ReadFault = 3
-refusal_status report.TooLong = 1
-refusal_status report.Header = 1
-refusal_status (report.Frame k) = 1
-refusal_status (report.Section k id) = 1
-refusal_status (report.TooDeep id entry) = 1
-refusal_status report.Counts = 1
-refusal_status (report.Float part) = 1
-refusal_status (report.Limit which at count) = 1
-refusal_status (report.Invalid part) = 1
-refusal_status report.Unbuilt = 6
-refusal_status (report.NoFunction func) = 6
-refusal_status (report.NoInstruction at count) = 6
-refusal_status report.NameTaken = 6
+-- the status that tells of a refusal
+abbrev pub refusal_status : Refusal → ℕ
+refusal_status refusal.Words = status_code WordsRefused
+refusal_status refusal.ReadFailed = status_code ReadFailed
+refusal_status (refusal.Module cause) = status_code ModuleRefused
+refusal_status (refusal.Query cause) = status_code QueryRefused

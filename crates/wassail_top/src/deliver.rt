@@ -1,4 +1,5 @@
-// Writing what is due: out first, and then err.
+//! Writing what is due: out first, and then err.
+
 ghost use Rattle.std.specs.Prelude.{◌⊎◌, OnOk, OnErr};
 ghost use Rattle.outside_io.specs.Causes.{Rose};
 ghost use Rattle.wassail_top.specs.Outcome.{GaveAll, GaveFront};

@@ -1,28 +1,28 @@
-// What is due on out and err, worked out before anything is written.
+//! What is due on out and err, worked out before anything is written.
+
 ghost use Rattle.std.specs.Prelude.{◌≡◌, ◌≤◌, ◌<◌, ◌^◌, None, length, map, IfOk};
 ghost use Rattle.std.specs.String.{string_bytes};
 ghost use Rattle.wasm_types.specs.Canon.{canon};
 ghost use Rattle.wasm_types.specs.Subset.{NestsAtMost, most_nesting};
 ghost use Rattle.wasm_types.specs.WellFormed.{IsWellFormed};
 ghost use Rattle.wasm_validate.specs.Admission.{IsAdmitted};
-ghost use Rattle.wassail_top.specs.Answers.{IsDue, IsReadDue, AnswersAdmitted, AnswersBytes, AnswersFlat, AnswersModule, AnswersSlice, most_bytes, slice_answer};
-ghost use Rattle.wassail_top.specs.Flat.{IsFlat};
-ghost use Rattle.wassail_top.specs.Orders.{HasShortName, IsReader, most_name_bytes, order_read};
+ghost use Rattle.wassail_top.specs.Answers.{IsDue, IsDueTo, AnswersAdmitted, AnswersBytes, AnswersFlat, AnswersModule, AnswersSlice, most_bytes, slice_answer};
+ghost use Rattle.slice_whole.specs.Flat.{IsFlat};
+ghost use Rattle.wassail_top.specs.Orders.{HasShortName, most_name_bytes, order_read};
 ghost use Rattle.wassail_top.specs.Refusals.{refused};
 ghost use Rattle.wassail_top.specs.Reply.{reply_answer};
 ghost use Rattle.wassail_top.specs.Words.{order_of};
 
-use crate::flat::is_flat;
-use crate::slice::{Sliced, slice};
+use crate::refusals::{admit_refusal, decode_refusal, slice_refusal};
 use crate::status::Status;
-use crate::told::{admit_report_of, decode_report_of, slice_report_of};
 use crate::words::{Command, WordsEnd, parse_words};
 use outside_io::{ReadEnd, Source, read_all};
-use report_text::{Report, refusal_text};
+use report_text::{ModuleRefusal, QueryRefusal, Refusal, refusal_text, slice_text, valid_text};
+use slice_whole::{Sliced, is_flat, slice};
 use std::alloc::Global;
 use wasm_decode::decode;
 use wasm_encode::encode;
-use wasm_types::{Module, NoMemory, Pos};
+use wasm_types::{Module, NoMemory, Pos, ValidModule};
 use wasm_validate::admit;
 
 /// A status, and what out and err get.
@@ -36,7 +36,7 @@ pub struct Reply {
 // The greatest number of bytes that a module may have.
 const MOST_BYTES: usize = 8388608;
 
-/// What is due, or want of memory.
+/// What is due. It fails only where an allocation is refused.
 pub fn due<S: Source>(alloc: Global, words: &[String], source: &mut S) -> Result<Reply, NoMemory>
     ensures due { IfOk result (λ reply. IsDue (map string_bytes words.now) (S.left source.old) (S.left source.new)
         (S.faults source.old) (S.faults source.new) (reply_answer reply)) }
@@ -45,28 +45,26 @@ pub fn due<S: Source>(alloc: Global, words: &[String], source: &mut S) -> Result
 {
     match parse_words(alloc, words) {
         Ok(command) => read_and_answer(alloc, &command, source),
-        Err(WordsEnd::Refused) => refuse(alloc, Report::Words),
+        Err(WordsEnd::Refused) => refuse(alloc, Refusal::Words),
         Err(WordsEnd::Memory) => Err(NoMemory),
     }
 }
 
-// What is due from a command that reads.
+// What is due from a command.
 fn read_and_answer<S: Source>(
     alloc: Global,
     command: &Command,
     source: &mut S,
 ) -> Result<Reply, NoMemory>
-    requires reader { IsReader (order_read command.now) }
     requires name { HasShortName (order_read command.now) }
-    ensures due { IfOk result (λ reply. IsReadDue (order_read command.now) (S.left source.old) (S.left source.new)
+    ensures due { IfOk result (λ reply. IsDueTo (order_read command.now) (S.left source.old) (S.left source.new)
         (S.faults source.old) (S.faults source.new) (reply_answer reply)) }
-    ensures reader { IsReader (order_read command.now) }
     ensures later { S.faults source.old ≤ S.faults source.new }
 {
     match read_all(alloc, source, MOST_BYTES) {
         Ok(bytes) => answer_bytes(alloc, command, &bytes),
-        Err(ReadEnd::TooLong) => refuse(alloc, Report::TooLong),
-        Err(ReadEnd::Fault) => refuse(alloc, Report::ReadFault),
+        Err(ReadEnd::TooLong) => refuse(alloc, Refusal::Module(ModuleRefusal::TooLong)),
+        Err(ReadEnd::Fault) => refuse(alloc, Refusal::ReadFailed),
         Err(ReadEnd::Memory) => Err(NoMemory),
     }
 }
@@ -79,8 +77,8 @@ fn answer_bytes(alloc: Global, command: &Command, bytes: &[u8]) -> Result<Reply,
 {
     match decode(alloc, bytes) {
         Ok(form) => answer_module(alloc, command, form),
-        Err(end) => match decode_report_of(end) {
-            Some(report) => refuse(alloc, report),
+        Err(end) => match decode_refusal(end) {
+            Some(cause) => refuse(alloc, Refusal::Module(cause)),
             None => Err(NoMemory),
         },
     }
@@ -95,102 +93,98 @@ fn answer_module(alloc: Global, command: &Command, form: Module) -> Result<Reply
     ensures { IfOk result (λ reply. AnswersModule (order_read command.now) form (reply_answer reply)) }
 {
     match admit(alloc, form) {
-        Ok(valid) => answer_admitted(alloc, command, valid.into_module()),
-        Err((_, end)) => match admit_report_of(end) {
-            Some(report) => refuse(alloc, report),
+        Ok(valid) => answer_admitted(alloc, command, valid),
+        Err((_, end)) => match admit_refusal(end) {
+            Some(cause) => refuse(alloc, Refusal::Module(cause)),
             None => Err(NoMemory),
         },
     }
 }
 
 // What a command answers about an admitted module.
-fn answer_admitted(alloc: Global, command: &Command, form: Module) -> Result<Reply, NoMemory>
-    requires admitted { IsAdmitted form }
-    requires short { length (canon form) ≤ most_bytes }
+fn answer_admitted(alloc: Global, command: &Command, valid: ValidModule) -> Result<Reply, NoMemory>
+    requires admitted { IsAdmitted valid }
+    requires short { length (canon valid) ≤ most_bytes }
     requires name { HasShortName (order_read command.now) }
-    ensures { IfOk result (λ reply. AnswersAdmitted (order_read command.now) form (reply_answer reply)) }
+    ensures { IfOk result (λ reply. AnswersAdmitted (order_read command.now) valid (reply_answer reply)) }
 {
     match command {
         Command::Check => Ok(Reply {
             status: Status::Answered,
-            out: format!(in alloc; "valid\n")?.into_bytes(),
+            out: valid_text(alloc)?,
             err: Vec::new(alloc),
         }),
         Command::Rewrite => Ok(Reply {
             status: Status::Answered,
-            out: encode(alloc, &form)?,
+            out: encode(alloc, valid.module())?,
             err: Vec::new(alloc),
         }),
-        Command::Slice { func, at, name } => answer_slice(alloc, form, *func, *at, name.as_str()),
+        Command::Slice { func, at, name } => answer_slice(alloc, valid, *func, *at, name.as_str()),
     }
 }
 
 // What `slice` answers about an admitted module.
 fn answer_slice(
     alloc: Global,
-    form: Module,
+    valid: ValidModule,
     func: u32,
     at: u32,
     name: &str,
 ) -> Result<Reply, NoMemory>
-    requires admitted { IsAdmitted form }
-    requires short { length (canon form) ≤ most_bytes }
+    requires admitted { IsAdmitted valid }
+    requires short { length (canon valid) ≤ most_bytes }
     requires name { length name.now ≤ most_name_bytes }
-    ensures { IfOk result (λ reply. AnswersSlice func at name.now form (reply_answer reply)) }
+    ensures { IfOk result (λ reply. AnswersSlice func at name.now valid (reply_answer reply)) }
 {
-    if is_flat(&form) {
-        slice_flat(alloc, form, func, at, name)
+    if is_flat(valid.module()) {
+        slice_flat(alloc, valid, func, at, name)
     } else {
-        refuse(alloc, Report::Unbuilt)
+        refuse(alloc, Refusal::Query(QueryRefusal::Unbuilt))
     }
 }
 
 // What `slice` answers about a flat module.
 fn slice_flat(
     alloc: Global,
-    form: Module,
+    valid: ValidModule,
     func: u32,
     at: u32,
     name: &str,
 ) -> Result<Reply, NoMemory>
-    requires flat { IsFlat form }
-    requires short { length (canon form) ≤ most_bytes }
+    requires flat { IsFlat valid }
+    requires short { length (canon valid) ≤ most_bytes }
     requires name { length name.now ≤ most_name_bytes }
-    ensures { IfOk result (λ reply. AnswersFlat func at name.now form (reply_answer reply)) }
+    ensures { IfOk result (λ reply. AnswersFlat func at name.now valid (reply_answer reply)) }
 {
-    match slice(alloc, form, func, Pos(at), name) {
-        Ok(sliced) => tell_slice(alloc, &sliced),
-        Err(cause) => match slice_report_of(cause, func, at) {
-            Some(report) => refuse(alloc, report),
+    match slice(alloc, valid, func, Pos(at), name) {
+        Ok(sliced) => write_slice(alloc, &sliced),
+        Err(end) => match slice_refusal(end, func, at) {
+            Some(cause) => refuse(alloc, Refusal::Query(cause)),
             None => Err(NoMemory),
         },
     }
 }
 
 // The sliced module on out, and on err where the instruction went.
-fn tell_slice(alloc: Global, sliced: &Sliced) -> Result<Reply, NoMemory>
+fn write_slice(alloc: Global, sliced: &Sliced) -> Result<Reply, NoMemory>
     requires well_formed { IsWellFormed sliced.now.module }
     requires short { length (canon sliced.now.module) < 2 ^ 32 }
     ensures { IfOk result (λ reply. reply_answer reply ≡ slice_answer sliced.now.module sliced.now.func sliced.now.at.0) }
 {
-    let out = encode(alloc, &sliced.module)?;
-    let func = sliced.func;
-    let at = sliced.at.0;
-    let line = format!(in alloc; "function {func} instruction {at}\n")?;
     Ok(Reply {
         status: Status::Answered,
-        out,
-        err: line.into_bytes(),
+        out: encode(alloc, sliced.module.module())?,
+        err: slice_text(alloc, sliced.func, sliced.at.0)?,
     })
 }
 
 // Nothing for out, and a line for err.
-fn refuse(alloc: Global, report: Report) -> Result<Reply, NoMemory>
-    ensures { IfOk result (λ reply. reply_answer reply ≡ refused report) }
+fn refuse(alloc: Global, refusal: Refusal) -> Result<Reply, NoMemory>
+    ensures { IfOk result (λ reply. reply_answer reply ≡ refused refusal) }
 {
     Ok(Reply {
-        status: Status::of(report),
+        status: Status::of(refusal),
         out: Vec::new(alloc),
-        err: refusal_text(alloc, &report)?,
+        err: refusal_text(alloc, refusal)?,
     })
 }

@@ -1,8 +1,9 @@
-// How the program ends.
+//! The exit status.
+
 ghost use Rattle.std.specs.Prelude.{◌≡◌};
 ghost use Rattle.wassail_top.specs.Statuses.{refusal_status, status_code};
 
-use report_text::Report;
+use report_text::Refusal;
 
 /// How the program ends.
 #[derive(Clone, Copy, Debug, PartialEq, Eq)]
@@ -17,7 +18,7 @@ pub enum Status {
     ReadFailed,
     /// A write failed.
     WriteFailed,
-    /// Memory was wanted and isn't there.
+    /// An allocation was refused.
     NoMemory,
     /// The query about the module is refused.
     QueryRefused,
@@ -40,25 +41,14 @@ impl Status {
     }
 
     /// The status that tells of a refusal.
-    pub fn of(report: Report) -> Status
-        ensures { status_code result ≡ refusal_status report }
+    pub fn of(refusal: Refusal) -> Status
+        ensures { status_code result ≡ refusal_status refusal }
     {
-        match report {
-            Report::Words => Status::WordsRefused,
-            Report::ReadFault => Status::ReadFailed,
-            Report::TooLong
-            | Report::Header
-            | Report::Frame { .. }
-            | Report::Section { .. }
-            | Report::TooDeep { .. }
-            | Report::Counts
-            | Report::Float { .. }
-            | Report::Limit { .. }
-            | Report::Invalid { .. } => Status::ModuleRefused,
-            Report::Unbuilt
-            | Report::NoFunction { .. }
-            | Report::NoInstruction { .. }
-            | Report::NameTaken => Status::QueryRefused,
+        match refusal {
+            Refusal::Words => Status::WordsRefused,
+            Refusal::ReadFailed => Status::ReadFailed,
+            Refusal::Module(_) => Status::ModuleRefused,
+            Refusal::Query(_) => Status::QueryRefused,
         }
     }
 }

@@ -1,3 +1,5 @@
+//! The program over sources and sinks in memory.
+
 ghost use Rattle.std.specs.Prelude.{◌≤◌};
 
 use super::*;

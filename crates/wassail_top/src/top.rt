@@ -1,5 +1,6 @@
-// The call that does all that the program does.
-ghost use Rattle.std.specs.Prelude.{◌≡◌, ◌≢◌, ◌⊎◌, ◌≤◌, ◌∷◌, ℕ, List, [], None, Some, map, length, codes};
+//! The call that does all that the program does.
+
+ghost use Rattle.std.specs.Prelude.{All, ◌≡◌, ◌≢◌, ◌⊎◌, ◌≤◌, ◌∷◌, ℕ, List, [], None, Some, map, length, codes};
 ghost use Rattle.std.specs.String.{string_bytes};
 ghost use Rattle.std.specs.declared.option.Option.{Option};
 ghost use Rattle.std.specs.Io.KnownBytes.{Keeps};
@@ -8,11 +9,14 @@ ghost use Rattle.wasm_types.specs.declared.module.Module.{Module};
 ghost use Rattle.wasm_types.specs.Modules.{Spells};
 ghost use Rattle.wasm_types.specs.Subset.{InSubset};
 ghost use Rattle.wasm_types.specs.Validity.{IsValid};
-ghost use Rattle.wassail_top.specs.Answers.{Answers, most_bytes};
+ghost use Rattle.wasm_types.specs.WellFormed.{IsU8};
+ghost use Rattle.wassail_top.specs.Answers.{Answers, HasAnswer, IsText, most_bytes};
+ghost use Rattle.slice_whole.specs.Flat.{IsFlat};
 ghost use Rattle.wassail_top.specs.Headline.{SliceHolds};
 ghost use Rattle.wassail_top.specs.Orders.Order.{slice};
 ghost use Rattle.wassail_top.specs.Outcome.{Answered, ReadFailed, WriteFailed};
-ghost use Rattle.wassail_top.specs.Refusals.{Answer};
+ghost use Rattle.wassail_top.specs.Refusals.{Answer, HasNoRefusal, why_not_sliced};
+ghost use Rattle.slice_whole.specs.Slices.{Refuses};
 ghost use Rattle.wassail_top.specs.Words.{order_of};
 
 use crate::deliver::deliver;
@@ -21,10 +25,10 @@ use crate::status::Status;
 use outside_io::{Sink, Source};
 use std::alloc::Global;
 
-/// Reads the words, reads `source` where they are a command that reads, and writes the answer to `out` and `err`. What
+/// Reads the words, reads `source` where they are a command, and writes the answer to `out` and `err`. What
 /// comes out is the exit status (`Status`); docs/COMMANDS.md says when each comes.
 ///
-/// All is worked out, and all memory taken, before the first write.
+/// All is worked out, and all memory allocated, before the first write.
 pub fn wassail<S: Source, O: Sink, E: Sink>(
     alloc: Global,
     words: &[String],
@@ -45,25 +49,32 @@ pub fn wassail<S: Source, O: Sink, E: Sink>(
         × WriteFailed (map string_bytes words.now) (S.left source.old) (S.left source.new) (S.faults source.old) (S.faults source.new)
         (O.held out.old) (O.held out.new) (E.held err.old) (E.held err.new) }
 
-    // Memory was wanted, and nothing was written.
+    // An allocation was refused, and nothing was written.
     ensures memory { result ≡ 5 → Keeps (O.held out.old) (O.held out.new) × Keeps (E.held err.old) (E.held err.new) }
 
     // Words that are no command leave the source as it was.
     ensures untouched { order_of (map string_bytes words.now) ≡ None → source.new ≡ source.old }
 
-    // The words are refused exactly where they are no command, unless a write fails or memory is wanted.
+    // The words are refused exactly where they are no command, unless a write fails or an allocation is refused.
     ensures words { order_of (map string_bytes words.now) ≡ None → (result ≡ 2) ⊎ (result ≡ 4) ⊎ (result ≡ 5) }
     ensures words_only { result ≡ 2 → order_of (map string_bytes words.now) ≡ None }
 
-    // Where no count of faults rose, out and err gained the answer, unless memory is wanted.
+    // Where no count of faults rose, out and err gained the answer, unless an allocation is refused.
     ensures complete { ¬ Rose (S.faults source.old) (S.faults source.new) → ¬ Rose (O.faults out.old) (O.faults out.new)
         → ¬ Rose (E.faults err.old) (E.faults err.new) → (result ≡ 5) ⊎ Answered (map string_bytes words.now)
         (S.left source.old) (S.left source.new) (O.held out.old) (O.held out.new) (E.held err.old) (E.held err.new) result }
 
-    // So the word `check` or `rewrite`, a valid module of the subset that isn't too long, and no fault give status 0, unless memory is wanted.
+    // So the word `check` or `rewrite`, a valid module of the subset that isn't too long, and no fault give status 0, unless an allocation is refused.
     ensures valid_succeeds { (bytes : List ℕ) (m : Module)
         → (map string_bytes words.now ≡ codes "check" ∷ []) ⊎ (map string_bytes words.now ≡ codes "rewrite" ∷ [])
         → S.left source.old ≡ Some bytes → length bytes ≤ most_bytes → Spells bytes m → IsValid m → InSubset m
+        → ¬ Rose (S.faults source.old) (S.faults source.new) → ¬ Rose (O.faults out.old) (O.faults out.new)
+        → ¬ Rose (E.faults err.old) (E.faults err.new) → (result ≡ 0) ⊎ (result ≡ 5) }
+
+    // And the words of a slice, a flat module that isn't too long and for which no refusal of the slice holds, and no fault.
+    ensures slice_succeeds { (bytes : List ℕ) (m : Module) (func at : ℕ) (name : List ℕ)
+        → order_of (map string_bytes words.now) ≡ Some (slice func at name)
+        → S.left source.old ≡ Some bytes → length bytes ≤ most_bytes → Spells bytes m → IsFlat m → HasNoRefusal (Refuses m func at name) (why_not_sliced func at)
         → ¬ Rose (S.faults source.old) (S.faults source.new) → ¬ Rose (O.faults out.old) (O.faults out.new)
         → ¬ Rose (E.faults err.old) (E.faults err.new) → (result ≡ 0) ⊎ (result ≡ 5) }
 
@@ -80,7 +91,13 @@ pub fn wassail<S: Source, O: Sink, E: Sink>(
     }
 }
 
-/// Words and told bytes have one answer, so the clauses of `wassail` say which status it gives and which bytes.
+/// Words that are texts, and the bytes of a source, have an answer: that none holds is impossible. The law builds no answer, since whether bytes spell
+/// a module and whether that is valid are relations and no tests; the program does.
+pub fn law_some_answer()
+    ensures { (words : List (List ℕ)) (bytes : List ℕ) → All IsText words → All IsU8 bytes → ¬ ¬ HasAnswer words bytes }
+{}
+
+/// Words and the bytes of a source have at most one answer, so the clauses of `wassail` say which status it gives and which bytes.
 pub fn law_one_answer()
     ensures { (words : List (List ℕ)) (bytes : List ℕ) (x y : Option (List ℕ)) (a b : Answer)
         → Answers words (Some bytes) x a → Answers words (Some bytes) y b → a ≡ b }

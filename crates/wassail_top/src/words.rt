@@ -1,4 +1,5 @@
-// The command that the words are.
+//! The command that the words are.
+
 ghost use Rattle.std.specs.Prelude.{◌≡◌, map, IfOk};
 ghost use Rattle.std.specs.String.{string_bytes};
 ghost use Rattle.wassail_top.specs.Orders.{order_read, HasShortName};
@@ -26,7 +27,7 @@ pub enum WordsEnd {
     /// The words are no command.
     #[error("words refused")]
     Refused,
-    /// Memory was wanted and isn't there.
+    /// An allocation was refused.
     #[error("no memory")]
     Memory,
 }

@@ -1,0 +1,121 @@
+-- Words that are texts, and the bytes of a source, have an answer.
+use Rattle.std.proofs.Common.{◌≡◌, ◌<◌, ◌≤◌, ◌+◌, ◌⊎◌, ℕ, Bool, true, false, List, [], ◌∷◌, length, take, drop, Option, Some, None, inl, inr, refl, sym, subst, arith}
+use Rattle.std.specs.Prelude.{All, IsUtf8, codes, if◌then◌else◌, nat_le, option_and_then}
+use Rattle.std.specs.Str.{bytes_eq}
+use Rattle.std.proofs.lemmas.Bool.{cases_lt, leb-true}
+use Rattle.std.proofs.lemmas.List.{append-nil, length-take-le, take-append-drop}
+use Rattle.std.proofs.lemmas.List.Elements.{All-head, All-tail}
+use Rattle.report_text.specs.declared.refusal.Refusal.TheVariants as refusal
+use Rattle.report_text.specs.declared.refusal.ModuleRefusal.TheVariants as of_module
+use Rattle.report_text.specs.Texts.{valid_line}
+use Rattle.wasm_types.specs.declared.module.Module.{Module}
+use Rattle.wasm_types.specs.Canon.{canon}
+use Rattle.wasm_types.specs.WellFormed.{IsU8, IsWellFormed}
+use Rattle.wasm_types.proofs.ProperLemmas.{spelled_well_formed}
+use Rattle.wassail_top.specs.Answers.{IsText, HasAnswer, AnswersOrder, AnswersBytes, AnswersModule, AnswersAdmitted, bytes_alone, most_bytes}
+use Rattle.wassail_top.specs.Orders.{Order, most_name_bytes}
+use Rattle.wassail_top.specs.Orders.Order.{check, rewrite, slice}
+use Rattle.wassail_top.specs.Refusals.{Answer, refused}
+use Rattle.wassail_top.specs.Words.{alone, number_of, order_named, order_of, two_and_name}
+use Rattle.wassail_top.proofs.NotRefuted.{NotRefuted}
+use Rattle.wassail_top.proofs.SomeAdmission.{some_admission}
+use Rattle.wassail_top.proofs.SomeDecoding.{some_decoding}
+use Rattle.wassail_top.proofs.SomeSlice.{some_slice}
+
+-- ---- the name in the words of a slice
+
+-- the name that is asked for is a text, and isn't too long
+abbrev HasProperName : Order → Type 0
+HasProperName check = Unit {0}
+HasProperName rewrite = Unit {0}
+HasProperName (slice func at name) = IsText name × (length name ≤ most_name_bytes)
+
+-- the command, if there is one, has such a name
+abbrev IsProper : Option Order → Type 0
+IsProper o = (order : Order) → o ≡ Some order → HasProperName order
+
+none_proper : IsProper None
+none_proper order is = absurd cc
+
+some_proper : (order : Order) → HasProperName order → IsProper (Some order)
+some_proper order h other is = let same : order ≡ other = cc in subst HasProperName same h
+
+if_proper : (b : Bool) (x y : Option Order) → IsProper x → IsProper y → IsProper (if b then x else y)
+if_proper true x y p q = p
+if_proper false x y p q = q
+
+alone_proper : (order : Order) (rest : List (List ℕ)) → HasProperName order → IsProper (alone order rest)
+alone_proper order [] h = some_proper order h
+alone_proper order (word ∷ rest) h = none_proper
+
+both_proper : (x y : Option ℕ) (name : List ℕ) → IsText name → length name ≤ most_name_bytes
+    → IsProper (option_and_then (λ m. option_and_then (λ n. Some (slice m n name)) y) x)
+both_proper None y name text short = none_proper
+both_proper (Some m) None name text short = none_proper
+both_proper (Some m) (Some n) name text short = some_proper (slice m n name) (text, short)
+
+short_proper : (b : Bool) (x : Option Order) → (b ≡ true → IsProper x) → IsProper (if b then x else None)
+short_proper true x h = h refl
+short_proper false x h = none_proper
+
+slice_proper : (rest : List (List ℕ)) → All IsText rest → IsProper (two_and_name slice rest)
+slice_proper [] all = none_proper
+slice_proper (a ∷ []) all = none_proper
+slice_proper (a ∷ b ∷ []) all = none_proper
+slice_proper (a ∷ b ∷ name ∷ []) all =
+    let text = All-head IsText name [] (All-tail IsText b (name ∷ []) (All-tail IsText a (b ∷ name ∷ []) all)) in
+    short_proper (nat_le (length name) most_name_bytes) _ (λ short. both_proper (number_of a) (number_of b) name text (leb-true (length name) most_name_bytes short))
+slice_proper (a ∷ b ∷ name ∷ c ∷ rest) all = none_proper
+
+words_proper : (words : List (List ℕ)) → All IsText words → IsProper (order_of words)
+words_proper [] all = none_proper
+words_proper (name ∷ rest) all =
+    if_proper (bytes_eq name (codes "check")) _ _ (alone_proper check rest tt)
+    (if_proper (bytes_eq name (codes "rewrite")) _ _ (alone_proper rewrite rest tt)
+    (if_proper (bytes_eq name (codes "slice")) _ _ (slice_proper rest (All-tail IsText name rest all)) none_proper))
+
+-- ---- the answer
+
+some_admitted : (order : Order) (m : Module) → HasProperName order → NotRefuted ((answer : Answer) × AnswersAdmitted order m answer)
+some_admitted check m proper never = never (bytes_alone valid_line, refl)
+some_admitted rewrite m proper never = never (bytes_alone (canon m), refl)
+some_admitted (slice func at name) m proper never = some_slice func at name m proper.0 proper.1 never
+
+some_module : (order : Order) (m : Module) → HasProperName order → IsWellFormed m → NotRefuted ((answer : Answer) × AnswersModule order m answer)
+some_module order m proper formed never = some_admission m formed (λ r. elim r [
+  | inl admitted ↦ some_admitted order m proper (λ found. never (found.0, inr (admitted, found.1)))
+  | inr bad ↦ never (refused (refusal.Module bad.1), inl (bad.0, bad.1, bad.2, bad.3, refl))
+])
+
+some_bytes : (order : Order) (bytes : List ℕ) → HasProperName order → All IsU8 bytes → NotRefuted ((answer : Answer) × AnswersBytes order bytes answer)
+some_bytes order bytes proper all never = some_decoding bytes (λ r. elim r [
+  | inl m ↦ some_module order m.0 proper (spelled_well_formed bytes m.0 m.1.0 all) (λ found. never (found.0, inr (m.0, m.1, found.1)))
+  | inr bad ↦ never (refused (refusal.Module bad.1), inl (bad.0, bad.1, bad.2, bad.3, refl))
+])
+
+abbrev Answered : Order → List ℕ → Type 0
+Answered order bytes = (left : Option (List ℕ)) × (answer : Answer) × AnswersOrder order (Some bytes) left answer
+
+too_long : (order : Order) (bytes : List ℕ) → most_bytes < length bytes → Answered order bytes
+too_long order bytes long = (
+  Some (drop (most_bytes + 1) bytes),
+  refused (refusal.Module of_module.TooLong),
+  inl (record { bytes = take (most_bytes + 1) bytes; taken = sym (take-append-drop (most_bytes + 1) bytes); many = length-take-le (most_bytes + 1) bytes (omega arith) }, refl),
+)
+
+whole : (order : Order) (bytes : List ℕ) → length bytes ≤ most_bytes → (answer : Answer) × AnswersBytes order bytes answer → Answered order bytes
+whole order bytes short (answer, h) = (Some [], answer, inr (bytes, record { taken = sym (append-nil bytes); ended = refl }, short, h))
+
+some_order : (order : Order) (bytes : List ℕ) → HasProperName order → All IsU8 bytes → NotRefuted (Answered order bytes)
+some_order order bytes proper all never = elim (cases_lt most_bytes (length bytes)) [
+  | inl long ↦ never (too_long order bytes long)
+  | inr short ↦ some_bytes order bytes proper all (λ found. never (whole order bytes short found))
+]
+
+of_order : (words : List (List ℕ)) (bytes : List ℕ) (o : Option Order) → order_of words ≡ o → All IsText words → All IsU8 bytes → NotRefuted (HasAnswer words bytes)
+of_order words bytes None is texts all never = never (Some bytes, refused refusal.Words, inl (is, refl))
+of_order words bytes (Some order) is texts all never =
+    some_order order bytes (words_proper words texts order is) all (λ found. never (found.0, found.1, inr (order, is, found.2)))
+
+pub some_answer : (words : List (List ℕ)) (bytes : List ℕ) → All IsText words → All IsU8 bytes → NotRefuted (HasAnswer words bytes)
+some_answer words bytes texts all never = of_order words bytes (order_of words) refl texts all never

@@ -1,0 +1,47 @@
+//! The refusals that the ends of the layers below are: none where an allocation was refused.
+
+ghost use Rattle.std.specs.Prelude.{◌≡◌};
+ghost use Rattle.wassail_top.specs.Refusals.{why_not_admitted, why_not_decoded, why_not_sliced};
+
+use slice_whole::SliceRefusal;
+use report_text::{ModuleRefusal, QueryRefusal};
+use wasm_decode::DecodeEnd;
+use wasm_validate::AdmitEnd;
+
+/// Why bytes are refused that do not decode.
+pub fn decode_refusal(end: DecodeEnd) -> Option<ModuleRefusal>
+    ensures { result ≡ why_not_decoded end }
+{
+    match end {
+        DecodeEnd::Header => Some(ModuleRefusal::NoHeader),
+        DecodeEnd::Frame { k } => Some(ModuleRefusal::NoFrame { k }),
+        DecodeEnd::Section { k, id } => Some(ModuleRefusal::DoesNotRead { k, id }),
+        DecodeEnd::TooDeep { id, entry } => Some(ModuleRefusal::TooDeep { id, entry }),
+        DecodeEnd::Counts => Some(ModuleRefusal::Counts),
+        DecodeEnd::Memory => None,
+    }
+}
+
+/// Why a module is refused that is not admitted.
+pub fn admit_refusal(end: AdmitEnd) -> Option<ModuleRefusal>
+    ensures { result ≡ why_not_admitted end }
+{
+    match end {
+        AdmitEnd::Float { part } => Some(ModuleRefusal::Float { part }),
+        AdmitEnd::Limit { which, at, count } => Some(ModuleRefusal::Limit { which, at, count }),
+        AdmitEnd::Invalid { part } => Some(ModuleRefusal::Invalid { part }),
+        AdmitEnd::Memory => None,
+    }
+}
+
+/// Why a slice of function `func` at position `at` is refused.
+pub fn slice_refusal(end: SliceRefusal, func: u32, at: u32) -> Option<QueryRefusal>
+    ensures { result ≡ why_not_sliced func at end }
+{
+    match end {
+        SliceRefusal::NoFunction => Some(QueryRefusal::NoFunction { func }),
+        SliceRefusal::NoInstruction { count } => Some(QueryRefusal::NoInstruction { at, count }),
+        SliceRefusal::NameTaken => Some(QueryRefusal::NameTaken),
+        SliceRefusal::Memory => None,
+    }
+}
