@@ -6,3 +6,5 @@ pub mod Sliced
 pub mod Bounds
 pub mod Law
 pub mod Flat
+pub mod Rows
+pub mod Reach

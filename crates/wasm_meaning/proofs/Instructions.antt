@@ -1,85 +1,69 @@
--- The law of the instructions, one action at a time.
-use Rattle.std.proofs.Common.{◌≡◌, ◌≢◌, ℕ, inl, List, [], ◌∷◌, true, false, Option, Some, None, nat_eq, length, refl, sym, ap, subst, arith, true≢false, eq-eqb}
+-- The law of the instructions: that of actions, of calls of imported functions, and of the instructions that call.
+use Rattle.std.proofs.Common.{◌≡◌, ℕ, suc, List, [], ◌∷◌, Bool, true, false, Option, Some, None, nat_eq, if◌then◌else◌, length, refl, sym, ap, ◌∙◌, subst, arith}
 use Rattle.wasm_types.specs.declared.module.Value.{Value}
+use Rattle.wasm_types.specs.declared.module.FuncType.{FuncType}
 use Rattle.wasm_types.specs.declared.instr.Instr.{Instr}
+use Rattle.wasm_types.specs.Actions.{callees, Callee, Callees, Own, Through, Form, NoForm, Plain, CallOf, CallBy, form_of, own_task, table_task, task_by, Task, NoTask, Asks, Acts, task_of, takes_of, takes}
 use Rattle.wasm_meaning.specs.State.{Store, State}
-use Rattle.wasm_meaning.specs.Locations.{Loc, Local, EqAt, reads_of}
-use Rattle.wasm_meaning.specs.Stops.{Stop}
-use Rattle.wasm_meaning.specs.Actions.{Callees, Action, Const, Get, Discard, AddI32, action_of, takes, Effect, Answer, Gives, Stops, Calls, act}
-use Rattle.wasm_meaning.specs.Laws.{Does, DoesSame, GoesOn, InstructionLaw}
-use Rattle.wasm_meaning.proofs.Equal.{eq-refl}
+use Rattle.wasm_meaning.specs.Stops.{Stuck}
+use Rattle.wasm_meaning.specs.Operations.{number_of}
+use Rattle.wasm_meaning.specs.Effects.{Fixed, Effect, Answer, Gives, Stops, Calls, Found, Finds, Fails, found, call_found, perform, do_task, effect}
+use Rattle.wasm_meaning.specs.Laws.{TableAnswers, CalleeAnswers, CallLaw, InstructionLaw}
+use Rattle.wasm_meaning.proofs.ActionLaws.{stuck, if_true, action_law}
+use Rattle.wasm_meaning.proofs.HostLaws.{host_law}
 
-abbrev IsStop : Answer → Type 0
-IsStop (Gives e) = ⊥
-IsStop (Stops why st) = Unit {0}
+-- a call through the table has its index on top
+abbrev Through_more : Task → Type 0
+Through_more NoTask = Unit {0}
+Through_more (Acts a) = Unit {0}
+Through_more (Asks (Own f) n r) = Unit {0}
+Through_more (Asks (Through t k) n r) = n ≡ suc k
 
-pub stuck_gives : {A : Type 0} (a : Answer) (e : Effect) → a ≡ Gives e → IsStop a → A
-stuck_gives (Gives x) e q s = absurd s
-stuck_gives (Stops why st) e q s = absurd (subst IsStop q s)
+more_own : (f : ℕ) (o : Option FuncType) → Through_more (own_task f o)
+more_own f None = tt
+more_own f (Some t) = tt
 
--- an answer that stops gives nothing
-pub stops_give : {A : Type 0} {why : Stop} {st : State} (e : Effect) → Stops why st ≡ Gives e → A
-stops_give e q = absurd (subst IsStop q tt)
+more_table : (k : ℕ) (o : Option FuncType) → Through_more (table_task k o)
+more_table k None = tt
+more_table k (Some t) = refl
 
-pub effect_in : Answer → Effect → Effect
-effect_in (Gives e) d = e
-effect_in (Stops why s) d = d
+more_by : (cs : Callees) (fm : Form) → Through_more (task_by cs fm)
+more_by cs NoForm = tt
+more_by cs (Plain a) = tt
+more_by cs (CallOf f) = more_own f (cs.type_of f)
+more_by cs (CallBy t) = more_table t (cs.type_at t)
 
-pub gives_is : (a e : Effect) → Gives a ≡ Gives e → a ≡ e
-unfolding effect_in
-gives_is a e q = ap (λ o. effect_in o a) q
+answers_found : (c : Calls) (w : Found) (args : List Value) (st : Store) → TableAnswers c w args st (call_found c w args st)
+answers_found c (Finds f) args st = refl
+answers_found c (Fails reason) args st = refl
 
-does_by : (cs : Callees) (c : Calls) (op : Instr) (a : Option Action) (vs : List Value) (st : Store) (e : Effect) → action_of cs op ≡ a → act c a vs st ≡ Gives e → Does cs op vs st e
-does_by cs c op None vs st e q h = stuck_gives _ e h tt
-does_by cs c op (Some (Const v)) [] st e q h = subst (λ z. Does cs op [] st z) (gives_is _ e h) (record { took = rw q refl; left = rw q refl; frame = λ x off. eq-refl x st; turns = omega arith })
-does_by cs c op (Some (Const v)) (a ∷ vs) st e q h = stuck_gives _ e h tt
-does_by cs c op (Some (Get k)) [] st e q h = subst (λ z. Does cs op [] st z) (gives_is _ e h) (record { took = rw q refl; left = rw q refl; frame = λ x off. eq-refl x st; turns = omega arith })
-does_by cs c op (Some (Get k)) (a ∷ vs) st e q h = stuck_gives _ e h tt
-does_by cs c op (Some Discard) [] st e q h = stuck_gives _ e h tt
-does_by cs c op (Some Discard) (a ∷ []) st e q h = subst (λ z. Does cs op (a ∷ []) st z) (gives_is _ e h) (record { took = rw q refl; left = rw q refl; frame = λ x off. eq-refl x st; turns = omega arith })
-does_by cs c op (Some Discard) (a ∷ b ∷ vs) st e q h = stuck_gives _ e h tt
-does_by cs c op (Some AddI32) [] st e q h = stuck_gives _ e h tt
-does_by cs c op (Some AddI32) (a ∷ []) st e q h = stuck_gives _ e h tt
-does_by cs c op (Some AddI32) (a ∷ b ∷ []) st e q h = subst (λ z. Does cs op (a ∷ b ∷ []) st z) (gives_is _ e h) (record { took = rw q refl; left = rw q refl; frame = λ x off. eq-refl x st; turns = omega arith })
-does_by cs c op (Some AddI32) (a ∷ b ∷ d ∷ vs) st e q h = stuck_gives _ e h tt
+nat_on : (x y : ℕ) → x ≡ y → nat_eq x y ≡ true
+nat_on x y e = grind arith
 
-is_eq : (x : ℕ) → nat_eq x x ≡ true
-is_eq x = eq-eqb x x refl
+eq_of : (x y : ℕ) → nat_eq x y ≡ true → x ≡ y
+eq_of x y e = grind arith
 
-not_on : {A : Type 0} → false ≡ true → A
-not_on e = absurd (true≢false (sym e))
+module _ (Z : Fixed) (c : Calls) (op : Instr) (n r : ℕ) where
+  asks_is : (g : Callee) → task_of (callees Z.m) op ≡ Asks g n r → (vs : List Value) (st : Store) → length vs ≡ takes (callees Z.m) op → effect Z c op vs st ≡ perform Z c g vs st
+  asks_is g is vs st l = ap (λ z. do_task Z c z vs st) is ∙ if_true (nat_eq (length vs) n) _ _ (nat_on (length vs) n (l ∙ ap takes_of is))
 
-same_by : (cs : Callees) (c : Calls) (op : Instr) (a : Option Action) (vs : List Value) (st st' : Store) (e : Effect) → action_of cs op ≡ a → ((x : Loc) → reads_of a x ≡ true → EqAt x st st') → act c a vs st ≡ Gives e → DoesSame cs c op vs st st' e
-same_by cs c op None vs st st' e q eq h = stuck_gives _ e h tt
-same_by cs c op (Some (Const v)) [] st st' e q eq h = subst (λ z. DoesSame cs c op [] st st' z) (gives_is _ e h) (record { other = _; is = ap (λ z. act c z [] st') q; turns = omega arith; results = refl; written = λ x on. not_on on })
-same_by cs c op (Some (Const v)) (a ∷ vs) st st' e q eq h = stuck_gives _ e h tt
-same_by cs c op (Some (Get k)) [] st st' e q eq h = subst (λ z. DoesSame cs c op [] st st' z) (gives_is _ e h) (record { other = _; is = ap (λ z. act c z [] st') q; turns = omega arith; results = ap (λ z. z ∷ []) (eq (Local k) (is_eq k)); written = λ x on. not_on on })
-same_by cs c op (Some (Get k)) (a ∷ vs) st st' e q eq h = stuck_gives _ e h tt
-same_by cs c op (Some Discard) [] st st' e q eq h = stuck_gives _ e h tt
-same_by cs c op (Some Discard) (a ∷ []) st st' e q eq h = subst (λ z. DoesSame cs c op (a ∷ []) st st' z) (gives_is _ e h) (record { other = _; is = ap (λ z. act c z (a ∷ []) st') q; turns = omega arith; results = refl; written = λ x on. not_on on })
-same_by cs c op (Some Discard) (a ∷ b ∷ vs) st st' e q eq h = stuck_gives _ e h tt
-same_by cs c op (Some AddI32) [] st st' e q eq h = stuck_gives _ e h tt
-same_by cs c op (Some AddI32) (a ∷ []) st st' e q eq h = stuck_gives _ e h tt
-same_by cs c op (Some AddI32) (a ∷ b ∷ []) st st' e q eq h = subst (λ z. DoesSame cs c op (a ∷ b ∷ []) st st' z) (gives_is _ e h) (record { other = _; is = ap (λ z. act c z (a ∷ b ∷ []) st') q; turns = omega arith; results = refl; written = λ x on. not_on on })
-same_by cs c op (Some AddI32) (a ∷ b ∷ d ∷ vs) st st' e q eq h = stuck_gives _ e h tt
+  callee_answers : (g : Callee) → task_of (callees Z.m) op ≡ Asks g n r → (vs : List Value) (st : Store) → length vs ≡ takes (callees Z.m) op → CalleeAnswers Z c g vs st (effect Z c op vs st)
+  callee_answers (Own f) is vs st l = asks_is (Own f) is vs st l
+  callee_answers (Through t k) is [] st l = let m : n ≡ suc k = subst Through_more is (more_by (callees Z.m) (form_of op)) in let e : 0 ≡ n = l ∙ ap takes_of is in absurd (omega arith)
+  callee_answers (Through t k) is (i ∷ args) st l =
+      let m : n ≡ suc k = subst Through_more is (more_by (callees Z.m) (form_of op)) in
+      let e : suc (length args) ≡ n = l ∙ ap takes_of is in
+      (i, args, refl, omega arith, subst (TableAnswers c (found Z t (number_of i)) args st) (sym (asks_is (Through t k) is (i ∷ args) st l)) (answers_found c (found Z t (number_of i)) args st))
 
-goes_by : (cs : Callees) (c : Calls) (op : Instr) (a : Option Action) (vs : List Value) (st : Store) → action_of cs op ≡ a → a ≢ None → length vs ≡ takes cs op → GoesOn cs c op vs st
-goes_by cs c op None vs st q m l = absurd (m refl)
-goes_by cs c op (Some (Const v)) [] st q m l = record { effect_is = _; is = ap (λ z. act c z [] st) q; turns = refl }
-goes_by cs c op (Some (Const v)) (a ∷ vs) st q m l = let n : takes cs op ≡ 0 = rw q refl in absurd (omega arith)
-goes_by cs c op (Some (Get k)) [] st q m l = record { effect_is = _; is = ap (λ z. act c z [] st) q; turns = refl }
-goes_by cs c op (Some (Get k)) (a ∷ vs) st q m l = let n : takes cs op ≡ 0 = rw q refl in absurd (omega arith)
-goes_by cs c op (Some Discard) [] st q m l = let n : takes cs op ≡ 1 = rw q refl in absurd (omega arith)
-goes_by cs c op (Some Discard) (a ∷ []) st q m l = record { effect_is = _; is = ap (λ z. act c z (a ∷ []) st) q; turns = refl }
-goes_by cs c op (Some Discard) (a ∷ b ∷ vs) st q m l = let n : takes cs op ≡ 1 = rw q refl in absurd (omega arith)
-goes_by cs c op (Some AddI32) [] st q m l = let n : takes cs op ≡ 2 = rw q refl in absurd (omega arith)
-goes_by cs c op (Some AddI32) (a ∷ []) st q m l = let n : takes cs op ≡ 2 = rw q refl in absurd (omega arith)
-goes_by cs c op (Some AddI32) (a ∷ b ∷ []) st q m l = record { effect_is = _; is = ap (λ z. act c z (a ∷ b ∷ []) st) q; turns = refl }
-goes_by cs c op (Some AddI32) (a ∷ b ∷ d ∷ vs) st q m l = let n : takes cs op ≡ 2 = rw q refl in absurd (omega arith)
+  asked_long : (b : Bool) (x : Answer) (s : State) (e : Effect) → (if b then x else Stops Stuck s) ≡ Gives e → b ≡ true
+  asked_long true x s e q = refl
+  asked_long false x s e q = stuck _ e q tt
+
+  pub call_law : (g : Callee) → task_of (callees Z.m) op ≡ Asks g n r → CallLaw Z c op g
+  call_law g is = record {
+    answers = λ vs st l. callee_answers g is vs st l;
+    gives = λ vs st e q. eq_of (length vs) n (asked_long (nat_eq (length vs) n) (perform Z c g vs st) st.state e (subst (λ z. do_task Z c z vs st ≡ Gives e) is q)) ∙ ap takes_of (sym is);
+  }
 
 pub instruction_law : InstructionLaw
-instruction_law cs c op vs st = (
-  (λ e h. does_by cs c op (action_of cs op) vs st e refl h),
-  (λ st' e eq h. same_by cs c op (action_of cs op) vs st st' e refl (λ x rd. eq x (inl rd)) h),
-  (λ m l. goes_by cs c op (action_of cs op) vs st refl m l),
-)
+instruction_law = record { action = action_law; host = host_law; call = λ Z c op g n r is. call_law Z c op n r g is }

@@ -1,3 +1,7 @@
-pub mod Examples
 pub mod Equal
+pub mod ActionLaws
+pub mod HostLaws
 pub mod Instructions
+pub mod Longer
+pub mod Append
+mod Examples

@@ -10,3 +10,5 @@ pub mod HostCalls
 pub mod Run
 pub mod Invoke
 pub mod Laws
+pub mod Longer
+pub mod Appended
