@@ -64,8 +64,10 @@ no_float m flat part.TableAll = tt
 no_float m flat part.MemoryAll = tt
 no_float m flat (part.GlobalAt g) = λ own le is. none_there m.globals _ own flat.only.no_globals is
 no_float m flat (part.FuncAt f) = λ (b : Body) has.
-    let small = all_at IsSmallBody m.bodies (f - import_count m) b has.1 flat.small.1 in
-    (All-weaker (λ (r : LocalRun). IsI32 r.kind) (λ (r : LocalRun). IsInteger r.kind) (λ r is. i32_integer r.kind is) b.locals small.0, small_integer (code_of b.code) small.1)
+    let small = all_at IsSmallBody m.bodies (f - import_count m) b has.1 flat.small.1 in (
+      All-weaker (λ (r : LocalRun). IsI32 r.kind) (λ (r : LocalRun). IsInteger r.kind) (λ r is. i32_integer r.kind is) b.locals small.0,
+      small_integer (code_of b.code) small.1,
+    )
 no_float m flat (part.ExportAt k) = tt
 no_float m flat part.StartAt = tt
 no_float m flat (part.ElemAt k) = if_some IsIntegerElem (slice_get m.elems k) (λ (e : Elem) is. none_there m.elems k e flat.only.no_elements is)
@@ -78,6 +80,7 @@ pub flat_nests : (m : Module) → IsFlat m → NestsAtMost most_nesting m
 flat_nests m flat = record {
   globals = all_empty (λ (g : GlobalDef). nest (code_of g.init) ≤ most_nesting) m.globals flat.only.no_globals;
   elems = all_empty (λ (e : Elem). nest (code_of e.offset) ≤ most_nesting) m.elems flat.only.no_elements;
-  bodies = All-weaker IsSmallBody (λ (b : Body). nest (code_of b.code) ≤ most_nesting) (λ b is. let zero = small_nests_none (code_of b.code) is.1 in omega arith) m.bodies flat.small.1;
+  bodies = All-weaker IsSmallBody (λ (b : Body). nest (code_of b.code) ≤ most_nesting)
+      (λ b is. let zero = small_nests_none (code_of b.code) is.1 in omega arith) m.bodies flat.small.1;
   segments = all_empty (λ (d : DataSegment). nest (code_of d.offset) ≤ most_nesting) m.segments flat.only.no_data;
 }

@@ -32,16 +32,20 @@ use Rattle.wassail_top.proofs.SlicedLaws.{slice_valid, slice_spelled}
 none_more : {A : Type 0} (P : A → Type 0) (xs ys : List A) → xs ≡ ys → ys ≡ [] → All P xs
 none_more P xs ys e z = subst (All P) (sym (e ∙ z)) (λ k d lt. absurd (omega arith))
 
-within_limit : (m : Module) (f i : ℕ) (name : List ℕ) (new : Module) (at : ℕ) → IsFlat m → IsSliced m f i (name_of name) new at → NestsNone new → NestsAtMost most_nesting new
+within_limit : (m : Module) (f i : ℕ) (name : List ℕ) (new : Module) (at : ℕ) → IsFlat m → IsSliced m f i (name_of name) new at → NestsNone new
+    → NestsAtMost most_nesting new
 within_limit m f i name new at flat s none = record {
-  globals = none_more (λ (g : GlobalDef). nest (code_of g.init) ≤ most_nesting) new.globals m.globals (ap (λ (x : Module). x.globals) s.is) flat.only.no_globals;
+  globals = none_more (λ (g : GlobalDef). nest (code_of g.init) ≤ most_nesting) new.globals m.globals
+      (ap (λ (x : Module). x.globals) s.is) flat.only.no_globals;
   elems = none_more (λ (e : Elem). nest (code_of e.offset) ≤ most_nesting) new.elems m.elems (ap (λ (x : Module). x.elems) s.is) flat.only.no_elements;
   bodies = λ k d lt. let e = none k d lt in omega arith;
-  segments = none_more (λ (d : DataSegment). nest (code_of d.offset) ≤ most_nesting) new.segments m.segments (ap (λ (x : Module). x.segments) s.is) flat.only.no_data;
+  segments = none_more (λ (d : DataSegment). nest (code_of d.offset) ≤ most_nesting) new.segments m.segments
+      (ap (λ (x : Module). x.segments) s.is) flat.only.no_data;
 }
 
 holds : (f i : ℕ) (name : List ℕ) (bytes : List ℕ) (left_old left_new out_old out_new err_old err_new : Option (List ℕ)) (answer : Answer)
-    → TookAll left_old left_new bytes → length bytes ≤ most_bytes → AnswersBytes (slice f i name) bytes answer → answer.status ≡ 0 → GaveAll out_old out_new err_old err_new answer
+    → TookAll left_old left_new bytes → length bytes ≤ most_bytes → AnswersBytes (slice f i name) bytes answer → answer.status ≡ 0
+    → GaveAll out_old out_new err_old err_new answer
     → SliceHolds f i name left_old left_new out_old out_new err_old err_new
 holds f i name bytes left_old left_new out_old out_new err_old err_new answer took short (inl bad) zero gave =
     let one : answer.status ≡ 1 = module_status (λ end. Decodes bytes (Err end)) why_not_decoded answer bad in absurd (omega arith)
@@ -82,7 +86,8 @@ of_order f i name left_old left_new out_old out_new err_old err_new answer (inr 
     holds f i name bytes left_old left_new out_old out_new err_old err_new answer took short h zero gave
 
 pub headline : (words : List (List ℕ)) (f i : ℕ) (name : List ℕ) (left_old left_new : Option (List ℕ)) (before now : ℕ) (out_old out_new err_old err_new : Option (List ℕ)) (answer : Answer)
-    → order_of words ≡ Some (slice f i name) → IsDue words left_old left_new before now answer → answer.status ≡ 0 → GaveAll out_old out_new err_old err_new answer
+    → order_of words ≡ Some (slice f i name) → IsDue words left_old left_new before now answer → answer.status ≡ 0
+    → GaveAll out_old out_new err_old err_new answer
     → SliceHolds f i name left_old left_new out_old out_new err_old err_new
 headline words f i name left_old left_new before now out_old out_new err_old err_new answer order (inl (inl h)) zero gave =
     let two : answer.status ≡ 2 = ap (λ (a : Answer). a.status) h.1 in absurd (omega arith)

@@ -24,7 +24,8 @@ use Rattle.wassail_top.proofs.FlatSlice.{OwnFunc, own_func, own_count, at_own, w
 use Rattle.wassail_top.proofs.NotRefuted.{NotRefuted, either}
 
 -- the sliced module of a function that is there
-pub the_slice : (m : Module) (f type i : ℕ) (name : List ℕ) (b : Body) → IsFlat m → slice_get m.funcs f ≡ Some type → slice_get m.bodies f ≡ Some b → i < count (code_of b.code)
+pub the_slice : (m : Module) (f type i : ℕ) (name : List ℕ) (b : Body) → IsFlat m → slice_get m.funcs f ≡ Some type → slice_get m.bodies f ≡ Some b
+    → i < count (code_of b.code)
     → (new : Module) × (at : ℕ) × IsSliced m f i (name_of name) new at
 the_slice m f type i name b flat at is lt =
     let own : OwnFunc m f type b = own_func m f type b flat.only.no_imports flat.small flat.valid at is in
@@ -51,7 +52,8 @@ abbrev Answered : Module → ℕ → ℕ → List ℕ → Type 0
 Answered m f i name = (answer : Answer) × AnswersFlat f i name m answer
 
 of_name : (m : Module) (f type i : ℕ) (name : List ℕ) (b : Body) → IsFlat m → ProperName (name_of name) → length name ≤ most_name_bytes
-    → slice_get m.funcs f ≡ Some type → slice_get m.bodies f ≡ Some b → i < count (code_of b.code) → (HasExport m.exports name) ⊎ (HasExport m.exports name → ⊥) → Answered m f i name
+    → slice_get m.funcs f ≡ Some type → slice_get m.bodies f ≡ Some b → i < count (code_of b.code)
+    → (HasExport m.exports name) ⊎ (HasExport m.exports name → ⊥) → Answered m f i name
 of_name m f type i name b flat proper short at is lt (inl taken) =
     (refused (refusal.Query of_query.NameTaken), inl (cause.NameTaken, of_query.NameTaken, ((count (code_of b.code), (b, is, refl), lt), taken), refl, refl))
 of_name m f type i name b flat proper short at is lt (inr free) =
@@ -85,5 +87,6 @@ of_kind : (f i : ℕ) (name : List ℕ) (m : Module) → ProperName (name_of nam
 of_kind f i name m proper short (inl flat) never = of_flat m f i name flat proper short (λ found. never (found.0, inr (flat, found.1)))
 of_kind f i name m proper short (inr other) never = never (refused (refusal.Query of_query.Unbuilt), inl (other, refl))
 
-pub some_slice : (f i : ℕ) (name : List ℕ) (m : Module) → ProperName (name_of name) → length name ≤ most_name_bytes → NotRefuted ((answer : Answer) × AnswersSlice f i name m answer)
+pub some_slice : (f i : ℕ) (name : List ℕ) (m : Module) → ProperName (name_of name) → length name ≤ most_name_bytes
+    → NotRefuted ((answer : Answer) × AnswersSlice f i name m answer)
 some_slice f i name m proper short never = either (IsFlat m) (λ kind. of_kind f i name m proper short kind never)

@@ -14,5 +14,8 @@ pub returns-then-is_flat : goal.returns-then-is_flat
 returns-then-is_flat c =
     let flat : IsFlat c.args.valid = subst IsFlat c.module.ensures.same (c.if-is_flat.ensures.0 refl) in
     IfOk-weaker c.slice_flat.result _ _
-    (λ reply answer. inr (flat, subst (λ (m : Module). AnswersFlat c.args.func c.args.at c.args.name.now m (reply_answer reply)) c.into_module.ensures.same answer))
+    (λ reply answer. inr (
+      flat,
+      subst (λ (m : Module). AnswersFlat c.args.func c.args.at c.args.name.now m (reply_answer reply)) c.into_module.ensures.same answer,
+    ))
     c.slice_flat.ensures

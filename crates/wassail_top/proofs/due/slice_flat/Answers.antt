@@ -7,12 +7,14 @@ use Rattle.wassail_top.proofs.due.slice_flat.Goals as goal
 pub write_slice-requires-clause-well_formed : goal.write_slice-requires-clause-well_formed
 write_slice-requires-clause-well_formed c =
     slice_well_formed c.args.form c.args.name.now c.in-Ok.sliced.module
-    (named c.args.form c.args.func c.args.at c.args.name.now c.in-Ok.sliced.module c.in-Ok.sliced.at.0 c.requires.flat c.in-Ok.ensures.0 (name_proper c.args.name.now (λ i. omega (arith, c.type_inv.name i)) c.utf8.name) c.in-Ok.ensures.2)
+    (named c.args.form c.args.func c.args.at c.args.name.now c.in-Ok.sliced.module c.in-Ok.sliced.at.0 c.requires.flat c.in-Ok.ensures.0
+    (name_proper c.args.name.now (λ i. omega (arith, c.type_inv.name i)) c.utf8.name) c.in-Ok.ensures.2)
 
 pub write_slice-requires-clause-short : goal.write_slice-requires-clause-short
 write_slice-requires-clause-short c =
     slice_fits c.args.form c.args.name.now c.in-Ok.sliced.module
-    (named c.args.form c.args.func c.args.at c.args.name.now c.in-Ok.sliced.module c.in-Ok.sliced.at.0 c.requires.flat c.in-Ok.ensures.0 (name_proper c.args.name.now (λ i. omega (arith, c.type_inv.name i)) c.utf8.name) c.in-Ok.ensures.2)
+    (named c.args.form c.args.func c.args.at c.args.name.now c.in-Ok.sliced.module c.in-Ok.sliced.at.0 c.requires.flat c.in-Ok.ensures.0
+    (name_proper c.args.name.now (λ i. omega (arith, c.type_inv.name i)) c.utf8.name) c.in-Ok.ensures.2)
     c.requires.short c.requires.name
 
 pub returns-in-Ok : goal.returns-in-Ok
