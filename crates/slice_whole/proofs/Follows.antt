@@ -1,7 +1,5 @@
 -- Slices of flat modules follow their originals: they call nothing, and their kept sets are closed.
-use Rattle.std.proofs.Common.{◌≡◌, ℕ, None, nat_eq, length, refl, sym, ap, ◌∙◌, subst, [], ◌∷◌}
-use Rattle.wasm_types.specs.declared.module.FuncType.{FuncType}
-use Rattle.wasm_types.specs.declared.module.Body.{Body}
+use Rattle.std.proofs.Common.{◌≡◌, ℕ, None, nat_eq, length, refl, sym, ◌∙◌, subst, [], ◌∷◌}
 use Rattle.wasm_types.specs.declared.module.Module.{Module}
 use Rattle.wasm_types.specs.declared.instr.Instr.{Instr, Drop, LocalGet, I32Const, Num}
 use Rattle.wasm_types.specs.declared.ops.NumOp.TheVariants.{Bin}
@@ -13,7 +11,7 @@ use Rattle.wasm_types.specs.Small.{IsSmallInstr, IsSmallCode}
 use Rattle.wasm_types.specs.Actions.{Callees, callees, task_of, called_of}
 use Rattle.wasm_types.specs.Sites.{body_sites}
 use Rattle.wasm_types.specs.Funcs.{unwatched}
-use Rattle.flow_domain.specs.Sliced.{context_of, IsSliced}
+use Rattle.flow_domain.specs.Sliced.{context_of}
 use Rattle.flow_domain.proofs.KeptLaws.{closed}
 use Rattle.flow_laws.specs.CallFree.{CallsNothing}
 use Rattle.flow_laws.specs.Calls.{HasHeights, AnyInstr}
