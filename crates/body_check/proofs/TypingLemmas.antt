@@ -138,6 +138,7 @@ num-one (num.Bin w u) a b t l h = plain-form _ _ a b t l (sym h.0) (sym h.1)
 num-one num.Wrap a b t l h = plain-form _ _ a b t l (sym h.0) (sym h.1)
 num-one num.ExtendS a b t l h = plain-form _ _ a b t l (sym h.0) (sym h.1)
 num-one num.ExtendU a b t l h = plain-form _ _ a b t l (sym h.0) (sym h.1)
+num-one (num.Low op) a b t l h = plain-form _ _ a b t l (sym h.0) (sym h.1)
 
 pub num-has : (c : Context) (op : NumOp) (s : Signature) → TypesNum op (reverse s.takes.items) (values_of s.leaves) → HasSignature c (v.Num op) (Some s)
 num-has c op s h = λ t l. num-one op (reverse s.takes.items) (values_of s.leaves) t l h

@@ -1,13 +1,9 @@
 //! The bodies of functions.
 
-ghost use Rattle.std.specs.Prelude.{◌≡◌, ◌↔◌, ◌≤◌, ◌<◌, ◌^◌, IfOk, IfSome, IsTrue, length};
+ghost use Rattle.std.specs.Prelude.{◌≡◌, ◌↔◌, ◌≤◌, ◌<◌, ◌^◌, IfOk, IsTrue, length};
 ghost use Rattle.wasm_types.specs.declared.place.Part.TheVariants as part;
-ghost use Rattle.wasm_types.specs.declared.module.Body.{Body};
-ghost use Rattle.wasm_types.specs.Code.{code_of, nest};
 ghost use Rattle.wasm_types.specs.Sections.{local_count};
 ghost use Rattle.wasm_types.specs.Sizes.{HasAtMost};
-ghost use Rattle.wasm_types.specs.Spaces.{body_of};
-ghost use Rattle.wasm_types.specs.Subset.{most_nesting};
 ghost use Rattle.wasm_types.specs.Validity.{Holds, IsValidBody};
 ghost use Rattle.wasm_types.specs.WellFormed.{IsWellFormed};
 ghost use Rattle.body_check.specs.Numbered.{Describes, FewResults};
@@ -19,8 +15,8 @@ use crate::spaces::Spaces;
 use std::alloc::Global;
 use wasm_types::{Body, FuncType, Module, NoMemory};
 
-/// Whether a body is valid as that of a function of this type in the module (docs/VALIDITY.md), where `spaces` are the module's. It calls itself once
-/// for each block that it goes into, so the body nests no deeper than the stack allows. An error comes only where memory is refused.
+/// Whether a body is valid as that of a function of this type in the module (docs/VALIDITY.md), where `spaces` are the module's. The check calls
+/// itself for each block that it goes into. An error comes only where memory is refused.
 pub fn is_valid_body(
     alloc: Global,
     m: &Module,
@@ -33,7 +29,6 @@ pub fn is_valid_body(
     requires one_result { length kind.now.results ≤ 1 }
     requires params { length kind.now.params < 2 ^ 31 }
     requires locals { local_count body.now.locals < 2 ^ 32 }
-    requires nesting { nest (code_of body.now.code) ≤ most_nesting }
     ensures { IfOk result (λ ok. IsTrue ok ↔ IsValidBody m.now kind.now body.now) }
 {
     let result = kind.results.get(0).copied();
@@ -56,7 +51,6 @@ pub fn check_body(alloc: Global, m: &Module, func: u32) -> Result<bool, NoMemory
     requires well_formed { IsWellFormed m.now }
     requires entries { HasAtMost 0x7FFF_FFFF m.now }
     requires results { FewResults m.now }
-    requires nesting { IfSome (body_of m.now func) (λ (b : Body). nest (code_of b.code) ≤ most_nesting) }
     ensures { IfOk result (λ ok. IsTrue ok ↔ Holds m.now (part.FuncAt func)) }
 {
     let Some(kind) = m.func_type(func) else {

@@ -1,7 +1,7 @@
 //! What instructions that hold no others take and leave: the table of docs/VALIDITY.md, worked out for one instruction.
 
 ghost use Rattle.std.specs.Prelude.{◌≡◌, ◌≢◌, ◌≤◌, ◌∷◌, ◌++◌, [], IfOk, IfSome, length, reverse, slice_get};
-ghost use Rattle.wasm_types.specs.Typing.{TypesNum, type_of_width, load_type, load_bytes, store_type, store_bytes};
+ghost use Rattle.wasm_types.specs.Typing.{TypesNum, type_of_width, low_type, load_type, load_bytes, store_type, store_bytes};
 ghost use Rattle.wasm_types.specs.Validity.{values_of};
 ghost use Rattle.wasm_types.specs.declared.instr.Instr.TheVariants as variant;
 ghost use Rattle.body_check.specs.Signatures.{context_of, HasSignature, UsesKind};
@@ -9,7 +9,7 @@ ghost use Rattle.body_check.specs.Signatures.{context_of, HasSignature, UsesKind
 use crate::place::Place;
 use smallvec::SmallVec;
 use std::alloc::Global;
-use wasm_types::{FuncType, Instr, LoadOp, NoMemory, NumOp, StoreOp, ValType, Width};
+use wasm_types::{FuncType, Instr, LoadOp, LowOp, NoMemory, NumOp, StoreOp, ValType, Width};
 
 /// What is taken, the last on top, and what is left: nothing or one value.
 #[derive(Drop)]
@@ -58,6 +58,16 @@ fn type_of(width: Width) -> ValType
     }
 }
 
+/// The type that a sign extension takes and leaves.
+fn extended(op: LowOp) -> ValType
+    ensures { result ≡ low_type op }
+{
+    match op {
+        LowOp::I32S8 | LowOp::I32S16 => ValType::I32,
+        LowOp::I64S8 | LowOp::I64S16 | LowOp::I64S32 => ValType::I64,
+    }
+}
+
 /// The signature of an operation on integers.
 fn of_operation(alloc: Global, op: NumOp) -> Result<Signature, NoMemory>
     ensures { IfOk result (λ s. TypesNum op (reverse s.takes.items) (values_of s.leaves)) }
@@ -79,6 +89,10 @@ fn of_operation(alloc: Global, op: NumOp) -> Result<Signature, NoMemory>
         NumOp::Wrap => taking(alloc, &[ValType::I64], Some(ValType::I32)),
         NumOp::ExtendS => taking(alloc, &[ValType::I32], Some(ValType::I64)),
         NumOp::ExtendU => taking(alloc, &[ValType::I32], Some(ValType::I64)),
+        NumOp::Low(op) => {
+            let kind = extended(op);
+            taking(alloc, &[kind], Some(kind))
+        }
     }
 }
 
@@ -199,6 +213,18 @@ pub(crate) fn typing(
         Instr::I32Const(_) => taking(alloc, &[], Some(ValType::I32))?,
         Instr::I64Const(_) => taking(alloc, &[], Some(ValType::I64))?,
         Instr::Num(op) => of_operation(alloc, *op)?,
+        Instr::MemoryCopy => {
+            if !place.has_memory() {
+                return Ok(None);
+            }
+            taking(alloc, &[ValType::I32, ValType::I32, ValType::I32], None)?
+        }
+        Instr::MemoryFill => {
+            if !place.has_memory() {
+                return Ok(None);
+            }
+            taking(alloc, &[ValType::I32, ValType::I32, ValType::I32], None)?
+        }
         _ => return Ok(None),
     };
     Ok(Some(found))

@@ -1,6 +1,7 @@
 -- The steps of the reader of plain instructions.
 use Rattle.std.proofs.Common.{◌≡◌, ℕ, ◌+◌, ◌*◌, ◌<◌, ◌≤◌, ◌⊎◌, ◌≢◌, ◌^◌, ℤ, Err, Option, Some, None, inl, inr, true, false, List, [], ◌∷◌, ◌++◌, length, get_or, drop, length-drop, refl, sym, ap, subst, ◌∙◌, arith, append_assoc}
-use Rattle.std.specs.Int.{w32, w64, cast_signed}
+use Rattle.std.specs.Int.{w32, w64, cast_signed, cast_unsigned}
+use Rattle.std.proofs.lemmas.Bool.{cases_eq}
 use Rattle.std.proofs.lemmas.Bool.Decides.{nat_tests}
 use Rattle.std.proofs.lemmas.Int.{of_z-to_z}
 use Rattle.wasm_types.specs.declared.instr.MemArg.{MemArg}
@@ -8,106 +9,283 @@ use Rattle.wasm_types.specs.declared.instr.Instr.{Instr, BrTable}
 use Rattle.wasm_types.specs.Standing.{Stands, NoneStands}
 use Rattle.wasm_types.specs.Numbers.{SpellsU32, SpellsS32, SpellsS64, SpellsI32, SpellsI64}
 use Rattle.wasm_types.specs.Parts.{Both, Counted}
-use Rattle.wasm_types.specs.Plain.{Immediates, nothing, number, labels, signature, address, memory, signed_32, signed_64, raw_32, raw_64, is_number, is_address, opcode, immediates, SpellsRaw32, SpellsRaw64, SpellsImmediates, SpellsPlain, SpellsAddress, SpellsSignature}
-use Rattle.wasm_types.proofs.NumberLemmas.{signed_below}
-use Rattle.wasm_types.proofs.Once.{IsOnce, once_u32}
-use Rattle.wasm_types.proofs.OpcodeLemmas.{shape, shape_of, told}
-use Rattle.wasm_types.proofs.CodeUnique.{no_text}
+use Rattle.wasm_types.specs.Plain.{Immediates, nothing, number, labels, signature, address, memory, signed_32, signed_64, raw_32, raw_64, bulk, never, memories_of, opcode, immediates, SpellsRaw32, SpellsRaw64, SpellsBulk, SpellsImmediates, SpellsPlain, SpellsAddress, SpellsSignature}
+use Rattle.wasm_types.proofs.NumberLemmas.{signed_below, one_signed}
+use Rattle.wasm_types.proofs.Once.{IsOnce, once_u32, once_both, once_counted}
+use Rattle.wasm_types.proofs.OpcodeLemmas.{once_raw32, once_raw64, once_bulk}
 use Rattle.wasm_types.proofs.StandingLemmas.{next, behind_first, both_stands, none_both_first, none_both_second}
 use Rattle.code_decode.specs.declared.outcome.Stop.{Stop}
 use Rattle.code_decode.specs.declared.outcome.Stop.TheVariants as stop
-use Rattle.code_decode.specs.Reading.{IsMade, NoZero, ReadsOr, Skips}
+use Rattle.opcode_table.specs.declared.instructions.Following.{Following}
+use Rattle.opcode_table.specs.declared.instructions.Following.TheVariants as kind
+use Rattle.opcode_table.specs.Table.{IsMade, kind_of, Follows}
+use Rattle.code_decode.specs.Reading.{NoZero, ReadsOr, Skips}
 
 -- ---- an instruction, by its opcode and what follows
 
-pub made_stands : {A : Type 0} (P : List ℕ → A → Type 0) (rest : Immediates) (bytes : List ℕ) (at end : ℕ) (i : Instr) (v : A) → at < length bytes → IsMade i (get_or bytes at 0) rest
-    → ((text : List ℕ) → P text v → SpellsImmediates text rest) → Stands P bytes (at + 1) end v → Stands SpellsPlain bytes at end i
-made_stands P rest bytes at end i v lt made whole s = record {
-  text = get_or bytes at 0 ∷ s.text;
-  spelled = record { rest = s.text; parts = ap (λ (b : ℕ). b ∷ s.text) (sym made.0); spelled = subst (λ (r : Immediates). SpellsImmediates s.text r) (sym made.1) (whole s.text s.spelled) };
-  here = next bytes at lt ∙ ap (λ (t : List ℕ). get_or bytes at 0 ∷ t) s.here;
-  within = s.within;
+-- one kind of text that follows an opcode: what it spells, and the immediates that this is
+pub record IsKind {A : Type 0} (P : List ℕ → A → Type 0) (tag : A → Immediates) (k : Following) : Type 0 where
+  pub to : (text : List ℕ) (v : A) → P text v → SpellsImmediates text (tag v)
+  pub from : (t : Immediates) (text : List ℕ) → kind_of t ≡ Some k → SpellsImmediates text t → (v : A) × (t ≡ tag v) × P text v
+  pub once : (a b x y : List ℕ) (v w : A) → P a v → P b w → a ++ x ≡ b ++ y → tag v ≡ tag w
+
+-- the instruction stands where what follows its opcode does
+behind : (bytes : List ℕ) (at end : ℕ) (i : Instr) (text : List ℕ) → at < length bytes → opcode i ≡ get_or bytes at 0
+    → SpellsImmediates text (immediates i) → drop (at + 1) bytes ≡ text ++ drop end bytes → end ≤ length bytes → Stands SpellsPlain bytes at end i
+behind bytes at end i text lt op p here within = record {
+  text = get_or bytes at 0 ∷ text;
+  spelled = record { rest = text; parts = ap (λ (b : ℕ). b ∷ text) (sym op); spelled = p };
+  here = next bytes at lt ∙ ap (λ (t : List ℕ). get_or bytes at 0 ∷ t) here;
+  within = within;
 }
+
+pub made : {A : Type 0} (P : List ℕ → A → Type 0) (tag : A → Immediates) (k : Following) (bytes : List ℕ) (at end : ℕ) (i : Instr) (v : A) → IsKind P tag k
+    → at < length bytes → IsMade i (get_or bytes at 0) (tag v) → Stands P bytes (at + 1) end v → Stands SpellsPlain bytes at end i
+made P tag k bytes at end i v kind lt is s =
+    let text = subst (λ (t : Immediates). SpellsImmediates s.text t) (sym is.1) (kind.to s.text v s.spelled) in
+    behind bytes at end i s.text lt is.0 text s.here s.within
 
 pub bare_stands : (bytes : List ℕ) (at : ℕ) (i : Instr) → at < length bytes → IsMade i (get_or bytes at 0) nothing → Stands SpellsPlain bytes at (at + 1) i
-bare_stands bytes at i lt made = record {
-  text = get_or bytes at 0 ∷ [];
-  spelled = record { rest = []; parts = ap (λ (b : ℕ). b ∷ []) (sym made.0); spelled = subst (λ (r : Immediates). SpellsImmediates [] r) (sym made.1) refl };
-  here = next bytes at lt;
-  within = omega arith;
-}
+bare_stands bytes at i lt is =
+    behind bytes at (at + 1) i [] lt is.0 (subst (λ (t : Immediates). SpellsImmediates [] t) (sym is.1) refl) refl (omega arith)
 
 -- what a plain text at a place tells
-pub opened : (bytes : List ℕ) (at : ℕ) (text rest : List ℕ) (i : Instr) → at < length bytes → drop at bytes ≡ text ++ rest → (s : SpellsPlain text i)
-    → (opcode i ≡ get_or bytes at 0) × (drop (at + 1) bytes ≡ s.rest ++ rest) × (shape (immediates i) ≡ shape_of (get_or bytes at 0))
+opened : (bytes : List ℕ) (at : ℕ) (text rest : List ℕ) (i : Instr) → at < length bytes → drop at bytes ≡ text ++ rest → (s : SpellsPlain text i)
+    → (opcode i ≡ get_or bytes at 0) × (drop (at + 1) bytes ≡ s.rest ++ rest)
 opened bytes at text rest i lt here s =
     let e : get_or bytes at 0 ∷ drop (at + 1) bytes ≡ opcode i ∷ (s.rest ++ rest) = sym (next bytes at lt) ∙ here ∙ ap (λ (t : List ℕ). t ++ rest) s.parts in
-    let op : opcode i ≡ get_or bytes at 0 = cc in
-    (op, cc, (told i s.rest s.spelled).1 ∙ ap shape_of op)
+    (cc, cc)
 
-pub not_made : {A : Type 0} (P : List ℕ → A → Type 0) (k : ℕ) (bytes : List ℕ) (at : ℕ) → at < length bytes → shape_of (get_or bytes at 0) ≡ k
-    → ((t : Immediates) (text : List ℕ) → shape t ≡ k → SpellsImmediates text t → (v : A) × P text v) → NoneStands P bytes (at + 1) → NoneStands SpellsPlain bytes at
-not_made P k bytes at lt is from none text rest i here s =
+-- the kind that follows, by its name
+pub at_kind : (byte : ℕ) (f k : Following) → f ≡ k → Follows byte (Some f) → Follows byte (Some k)
+at_kind byte f k e h = subst (λ (z : Following). Follows byte (Some z)) e h
+
+-- nothing of the kind stands behind the opcode
+pub not_read : {A : Type 0} (P : List ℕ → A → Type 0) (tag : A → Immediates) (k : Following) (bytes : List ℕ) (at : ℕ) → IsKind P tag k
+    → at < length bytes → Follows (get_or bytes at 0) (Some k) → NoneStands P bytes (at + 1) → NoneStands SpellsPlain bytes at
+not_read P tag k bytes at kind lt is none text rest i here s =
     let o = opened bytes at text rest i lt here s in
-    let f = from (immediates i) s.rest (o.2 ∙ is) s.spelled in
-    none s.rest rest f.0 o.1 f.1
+    let f = kind.from (immediates i) s.rest (is i s.rest o.0 s.spelled) s.spelled in
+    none s.rest rest f.0 o.1 f.2
 
-shape_nothing : (t : Immediates) → shape t ≡ 0 → t ≡ nothing
-shape_nothing nothing e = refl
-shape_nothing _ e = absurd (omega (arith, e))
+-- no instruction has the opcode with that behind it
+pub not_made : {A : Type 0} (P : List ℕ → A → Type 0) (tag : A → Immediates) (k : Following) (bytes : List ℕ) (at end : ℕ) (v : A) → IsKind P tag k
+    → at < length bytes → Follows (get_or bytes at 0) (Some k) → Stands P bytes (at + 1) end v → ((i : Instr) → IsMade i (get_or bytes at 0) (tag v) → ⊥)
+    → NoneStands SpellsPlain bytes at
+not_made P tag k bytes at end v kind lt is p none text rest i here s =
+    let o = opened bytes at text rest i lt here s in
+    let f = kind.from (immediates i) s.rest (is i s.rest o.0 s.spelled) s.spelled in
+    let same = kind.once p.text s.rest (drop end bytes) rest v f.0 p.spelled f.2 (sym p.here ∙ o.1) in
+    none i (o.0, f.1 ∙ sym same)
 
-pub not_bare : (bytes : List ℕ) (at : ℕ) → at < length bytes → (shape_of (get_or bytes at 0) ≡ 0) ⊎ (shape_of (get_or bytes at 0) ≡ 10) → ((i : Instr) → IsMade i (get_or bytes at 0) nothing → ⊥) → NoneStands SpellsPlain bytes at
-not_bare bytes at lt (inl is) none text rest i here s = let o = opened bytes at text rest i lt here s in none i (o.0, shape_nothing (immediates i) (o.2 ∙ is))
-not_bare bytes at lt (inr is) none text rest i here s = let o = opened bytes at text rest i lt here s in no_text (immediates i) s.rest (o.2 ∙ is) s.spelled
+kind_nothing : (t : Immediates) → kind_of t ≡ Some kind.Nothing → t ≡ nothing
+kind_nothing nothing e = refl
+kind_nothing _ e = absurd cc
 
-pub from_number : (t : Immediates) (text : List ℕ) → shape t ≡ 1 → SpellsImmediates text t → (v : ℕ) × SpellsU32 text v
-from_number (number n) text e p = (n, p)
-from_number _ text e p = absurd (omega (arith, e))
+pub not_bare : (bytes : List ℕ) (at : ℕ) → at < length bytes → Follows (get_or bytes at 0) (Some kind.Nothing) → ((i : Instr) → IsMade i (get_or bytes at 0) nothing → ⊥)
+    → NoneStands SpellsPlain bytes at
+not_bare bytes at lt is none text rest i here s =
+    let o = opened bytes at text rest i lt here s in
+    none i (o.0, kind_nothing (immediates i) (is i s.rest o.0 s.spelled))
 
-pub from_labels : (t : Immediates) (text : List ℕ) → shape t ≡ 2 → SpellsImmediates text t → (v : List ℕ × ℕ) × Both (Counted SpellsU32) SpellsU32 text v
-from_labels (labels some label) text e p = ((some, label), p)
-from_labels _ text e p = absurd (omega (arith, e))
+kind_none : (t : Immediates) (text : List ℕ) → kind_of t ≡ None → SpellsImmediates text t → ⊥
+kind_none never text e p = p
+kind_none _ text e p = absurd cc
 
-pub from_signature : (t : Immediates) (text : List ℕ) → shape t ≡ 3 → SpellsImmediates text t → (v : ℕ) × SpellsSignature text v
-from_signature (signature n) text e p = (n, p)
-from_signature _ text e p = absurd (omega (arith, e))
+pub not_opcode : (bytes : List ℕ) (at : ℕ) → at < length bytes → Follows (get_or bytes at 0) None → NoneStands SpellsPlain bytes at
+not_opcode bytes at lt is text rest i here s =
+    let o = opened bytes at text rest i lt here s in
+    kind_none (immediates i) s.rest (is i s.rest o.0 s.spelled) s.spelled
 
-pub from_address : (t : Immediates) (text : List ℕ) → shape t ≡ 4 → SpellsImmediates text t → (v : MemArg) × SpellsAddress text v
-from_address (address a o) text e p = (record { align = a; offset = o }, p)
-from_address _ text e p = absurd (omega (arith, e))
+-- ---- the kinds, each for itself
 
-pub from_memory : (t : Immediates) (text : List ℕ) → shape t ≡ 5 → SpellsImmediates text t → text ≡ 0 ∷ []
-from_memory memory text e p = p
-from_memory _ text e p = absurd (omega (arith, e))
+from_number : (t : Immediates) (text : List ℕ) → kind_of t ≡ Some kind.Number → SpellsImmediates text t → (v : ℕ) × (t ≡ number v) × SpellsU32 text v
+from_number (number n) text e p = (n, refl, p)
+from_number _ text e p = absurd cc
 
-pub from_signed_32 : (t : Immediates) (text : List ℕ) → shape t ≡ 6 → SpellsImmediates text t → (v : ℕ) × SpellsS32 text v
-from_signed_32 (signed_32 n) text e p = (n, p)
-from_signed_32 _ text e p = absurd (omega (arith, e))
+pub number_kind : IsKind SpellsU32 number kind.Number
+number_kind = record { to = λ text v p. p; from = from_number; once = λ a b x y v w p q e. ap number (once_u32 a b x y v w p q e).1 }
 
-pub from_signed_64 : (t : Immediates) (text : List ℕ) → shape t ≡ 7 → SpellsImmediates text t → (v : ℕ) × SpellsS64 text v
-from_signed_64 (signed_64 n) text e p = (n, p)
-from_signed_64 _ text e p = absurd (omega (arith, e))
+abbrev pub labels_tag : List ℕ × ℕ → Immediates
+labels_tag v = labels v.0 v.1
 
-pub from_raw_32 : (t : Immediates) (text : List ℕ) → shape t ≡ 8 → SpellsImmediates text t → (v : ℕ) × SpellsRaw32 text v
-from_raw_32 (raw_32 n) text e p = (n, p)
-from_raw_32 _ text e p = absurd (omega (arith, e))
+from_labels : (t : Immediates) (text : List ℕ) → kind_of t ≡ Some kind.Labels → SpellsImmediates text t
+    → (v : List ℕ × ℕ) × (t ≡ labels_tag v) × Both (Counted SpellsU32) SpellsU32 text v
+from_labels (labels some label) text e p = ((some, label), refl, p)
+from_labels _ text e p = absurd cc
 
-pub from_raw_64 : (t : Immediates) (text : List ℕ) → shape t ≡ 9 → SpellsImmediates text t → (v : ℕ) × SpellsRaw64 text v
-from_raw_64 (raw_64 n) text e p = (n, p)
-from_raw_64 _ text e p = absurd (omega (arith, e))
+pub labels_kind : IsKind (Both (Counted SpellsU32) SpellsU32) labels_tag kind.Labels
+labels_kind = record {
+  to = λ text v p. p;
+  from = from_labels;
+  once = λ a b x y v w p q e. ap labels_tag (once_both (Counted SpellsU32) SpellsU32 (once_counted SpellsU32 once_u32) once_u32 a b x y v w p q e).1;
+}
 
--- ---- which kind follows
+from_signature : (t : Immediates) (text : List ℕ) → kind_of t ≡ Some kind.Signature → SpellsImmediates text t → (v : ℕ) × (t ≡ signature v) × SpellsSignature text v
+from_signature (signature n) text e p = (n, refl, p)
+from_signature _ text e p = absurd cc
 
-pub number_shape : (n : ℕ) → is_number n ≡ true → shape_of n ≡ 1
-number_shape n h = grind (arith, nat_tests)
+pub signature_kind : IsKind SpellsSignature signature kind.Signature
+signature_kind = record {
+  to = λ text v p. p;
+  from = from_signature;
+  once = λ a b x y v w p q e. ap (λ (z : ℕ × ℕ). signature z.0) (once_both SpellsU32 SpellsU32 once_u32 once_u32 a b x y (v, 0) (w, 0) p q e).1;
+}
 
-pub address_shape : (n : ℕ) → is_address n ≡ true → shape_of n ≡ 4
-address_shape n h = grind (arith, nat_tests)
+abbrev pub address_tag : MemArg → Immediates
+address_tag m = address m.align m.offset
 
-pub other_shape : (n : ℕ) → is_number n ≡ false → is_address n ≡ false → n ≢ 0x0E → n ≢ 0x11 → n ≢ 0x3F → n ≢ 0x40 → n ≢ 0x41 → n ≢ 0x42 → n ≢ 0x43 → n ≢ 0x44 → (shape_of n ≡ 0) ⊎ (shape_of n ≡ 10)
-other_shape n a b c d e f g h i j = grind (arith, nat_tests)
+from_address : (t : Immediates) (text : List ℕ) → kind_of t ≡ Some kind.Address → SpellsImmediates text t → (v : MemArg) × (t ≡ address_tag v) × SpellsAddress text v
+from_address (address a o) text e p = (record { align = a; offset = o }, refl, p)
+from_address _ text e p = absurd cc
 
--- ---- the kinds
+pub address_kind : IsKind SpellsAddress address_tag kind.Address
+address_kind = record {
+  to = λ text v p. p;
+  from = from_address;
+  once = λ a b x y v w p q e.
+      ap (λ (z : ℕ × ℕ). address z.0 z.1) (once_both SpellsU32 SpellsU32 once_u32 once_u32 a b x y (v.align, v.offset) (w.align, w.offset) p q e).1;
+}
+
+from_raw_32 : (t : Immediates) (text : List ℕ) → kind_of t ≡ Some kind.Raw32 → SpellsImmediates text t → (v : ℕ) × (t ≡ raw_32 v) × SpellsRaw32 text v
+from_raw_32 (raw_32 n) text e p = (n, refl, p)
+from_raw_32 _ text e p = absurd cc
+
+pub raw_32_kind : IsKind SpellsRaw32 raw_32 kind.Raw32
+raw_32_kind = record { to = λ text v p. p; from = from_raw_32; once = λ a b x y v w p q e. ap raw_32 (once_raw32 a b x y v w p q e).1 }
+
+from_raw_64 : (t : Immediates) (text : List ℕ) → kind_of t ≡ Some kind.Raw64 → SpellsImmediates text t → (v : ℕ) × (t ≡ raw_64 v) × SpellsRaw64 text v
+from_raw_64 (raw_64 n) text e p = (n, refl, p)
+from_raw_64 _ text e p = absurd cc
+
+pub raw_64_kind : IsKind SpellsRaw64 raw_64 kind.Raw64
+raw_64_kind = record { to = λ text v p. p; from = from_raw_64; once = λ a b x y v w p q e. ap raw_64 (once_raw64 a b x y v w p q e).1 }
+
+from_bulk : (t : Immediates) (text : List ℕ) → kind_of t ≡ Some kind.Bulk → SpellsImmediates text t → (v : ℕ) × (t ≡ bulk v) × SpellsBulk text v
+from_bulk (bulk n) text e p = (n, refl, p)
+from_bulk _ text e p = absurd cc
+
+pub bulk_kind : IsKind SpellsBulk bulk kind.Bulk
+bulk_kind = record { to = λ text v p. p; from = from_bulk; once = λ a b x y v w p q e. ap bulk (once_bulk a b x y v w p q e).1 }
+
+-- signed numbers are read as such
+abbrev pub tag_32 : ℤ → Immediates
+tag_32 z = signed_32 (cast_unsigned w32 z)
+
+from_signed_32 : (t : Immediates) (text : List ℕ) → kind_of t ≡ Some kind.Signed32 → SpellsImmediates text t → (v : ℤ) × (t ≡ tag_32 v) × SpellsI32 text v
+from_signed_32 (signed_32 n) text e p =
+    let below : n < 2 ^ 32 = signed_below 2147483648 text n p in
+    let same : cast_unsigned w32 (cast_signed w32 n) ≡ n = of_z-to_z w32 n below in
+    (cast_signed w32 n, ap signed_32 (sym same), subst (λ (m : ℕ). SpellsS32 text m) (sym same) p)
+from_signed_32 _ text e p = absurd cc
+
+pub signed_32_kind : IsKind SpellsI32 tag_32 kind.Signed32
+signed_32_kind = record {
+  to = λ text v p. p;
+  from = from_signed_32;
+  once = λ a b x y v w p q e. ap signed_32 (one_signed 2147483648 a b x y (cast_unsigned w32 v) (cast_unsigned w32 w) p q e).1;
+}
+
+abbrev pub tag_64 : ℤ → Immediates
+tag_64 z = signed_64 (cast_unsigned w64 z)
+
+from_signed_64 : (t : Immediates) (text : List ℕ) → kind_of t ≡ Some kind.Signed64 → SpellsImmediates text t → (v : ℤ) × (t ≡ tag_64 v) × SpellsI64 text v
+from_signed_64 (signed_64 n) text e p =
+    let below : n < 2 ^ 64 = signed_below 9223372036854775808 text n p in
+    let same : cast_unsigned w64 (cast_signed w64 n) ≡ n = of_z-to_z w64 n below in
+    (cast_signed w64 n, ap signed_64 (sym same), subst (λ (m : ℕ). SpellsS64 text m) (sym same) p)
+from_signed_64 _ text e p = absurd cc
+
+pub signed_64_kind : IsKind SpellsI64 tag_64 kind.Signed64
+signed_64_kind = record {
+  to = λ text v p. p;
+  from = from_signed_64;
+  once = λ a b x y v w p q e. ap signed_64 (one_signed 9223372036854775808 a b x y (cast_unsigned w64 v) (cast_unsigned w64 w) p q e).1;
+}
+
+-- the byte of a memory
+from_memory : (t : Immediates) (text : List ℕ) → kind_of t ≡ Some kind.Memory → SpellsImmediates text t → (t ≡ memory) × (text ≡ 0 ∷ [])
+from_memory memory text e p = (refl, p)
+from_memory _ text e p = absurd cc
+
+zero_here : (bytes : List ℕ) (at end : ℕ) → (end ≡ at + 1) × (at < length bytes) × (get_or bytes at 0 ≡ 0) → (drop at bytes ≡ 0 ∷ drop end bytes) × (end ≤ length bytes)
+zero_here bytes at end z =
+    (next bytes at z.1 ∙ ap (λ (b : ℕ). b ∷ drop (at + 1) bytes) z.2 ∙ ap (λ (n : ℕ). 0 ∷ drop n bytes) (sym z.0), omega (arith, z.0, z.1))
+
+pub memory_stands : (bytes : List ℕ) (at end : ℕ) (i : Instr) → at < length bytes → IsMade i (get_or bytes at 0) memory
+    → (end ≡ at + 1 + 1) × (at + 1 < length bytes) × (get_or bytes (at + 1) 0 ≡ 0) → Stands SpellsPlain bytes at end i
+memory_stands bytes at end i lt is z =
+    let here = zero_here bytes (at + 1) end z in
+    behind bytes at end i (0 ∷ []) lt is.0 (subst (λ (t : Immediates). SpellsImmediates (0 ∷ []) t) (sym is.1) refl) here.0 here.1
+
+pub not_memory : (bytes : List ℕ) (at : ℕ) → at < length bytes → Follows (get_or bytes at 0) (Some kind.Memory) → NoZero bytes (at + 1) → NoneStands SpellsPlain bytes at
+not_memory bytes at lt is none text rest i here s =
+    let o = opened bytes at text rest i lt here s in
+    none rest (o.1 ∙ ap (λ (t : List ℕ). t ++ rest) (from_memory (immediates i) s.rest (is i s.rest o.0 s.spelled) s.spelled).1)
+
+pub not_of_memory : (bytes : List ℕ) (at : ℕ) → at < length bytes → Follows (get_or bytes at 0) (Some kind.Memory) → ((i : Instr) → IsMade i (get_or bytes at 0) memory → ⊥)
+    → NoneStands SpellsPlain bytes at
+not_of_memory bytes at lt is none text rest i here s =
+    let o = opened bytes at text rest i lt here s in
+    none i (o.0, (from_memory (immediates i) s.rest (is i s.rest o.0 s.spelled) s.spelled).0)
+
+-- ---- an instruction on ranges of memory
+
+pub bulk_two : (n : ℕ) → n ≡ 10 → memories_of n ≡ 0 ∷ 0 ∷ []
+bulk_two n e = grind (arith, nat_tests)
+
+pub bulk_one : (n : ℕ) → n ≢ 10 → memories_of n ≡ 0 ∷ []
+bulk_one n e = grind (arith, nat_tests)
+
+bulk_some : (n : ℕ) → (more : List ℕ) × (memories_of n ≡ 0 ∷ more)
+bulk_some n = elim (cases_eq n 10) [ inl e ↦ (0 ∷ [], bulk_two n e) | inr e ↦ ([], bulk_one n e) ]
+
+bulk_stands : (bytes : List ℕ) (at mid end n : ℕ) → Stands SpellsU32 bytes at mid n → drop mid bytes ≡ memories_of n ++ drop end bytes → end ≤ length bytes
+    → Stands SpellsBulk bytes at end n
+bulk_stands bytes at mid end n p here within = record {
+  text = p.text ++ memories_of n;
+  spelled = record { front = p.text; back = memories_of n; parts = refl; first = p.spelled; second = refl };
+  here = p.here ∙ ap (λ (t : List ℕ). p.text ++ t) here ∙ sym (append_assoc p.text (memories_of n) (drop end bytes));
+  within = within;
+}
+
+pub bulk_one_stands : (bytes : List ℕ) (at mid end n : ℕ) → n ≢ 10 → Stands SpellsU32 bytes at mid n
+    → (end ≡ mid + 1) × (mid < length bytes) × (get_or bytes mid 0 ≡ 0) → Stands SpellsBulk bytes at end n
+bulk_one_stands bytes at mid end n other p z =
+    let here = zero_here bytes mid end z in
+    bulk_stands bytes at mid end n p (here.0 ∙ ap (λ (t : List ℕ). t ++ drop end bytes) (sym (bulk_one n other))) here.1
+
+pub bulk_two_stands : (bytes : List ℕ) (at mid next end n : ℕ) → n ≡ 10 → Stands SpellsU32 bytes at mid n
+    → (next ≡ mid + 1) × (mid < length bytes) × (get_or bytes mid 0 ≡ 0) → (end ≡ next + 1) × (next < length bytes) × (get_or bytes next 0 ≡ 0)
+    → Stands SpellsBulk bytes at end n
+bulk_two_stands bytes at mid next end n two p y z =
+    let first = zero_here bytes mid next y in
+    let second = zero_here bytes next end z in
+    bulk_stands bytes at mid end n p
+    (first.0 ∙ ap (λ (t : List ℕ). 0 ∷ t) second.0 ∙ ap (λ (t : List ℕ). t ++ drop end bytes) (sym (bulk_two n two))) second.1
+
+pub no_bulk_number : (bytes : List ℕ) (at : ℕ) → NoneStands SpellsU32 bytes at → NoneStands SpellsBulk bytes at
+no_bulk_number bytes at none text rest n here s =
+    none s.front (s.back ++ rest) n (here ∙ ap (λ (t : List ℕ). t ++ rest) s.parts ∙ append_assoc s.front s.back rest) s.first
+
+-- what stands behind the number is no byte for each memory
+no_bulk : (bytes : List ℕ) (at mid n : ℕ) → Stands SpellsU32 bytes at mid n → ((rest : List ℕ) → drop mid bytes ≡ memories_of n ++ rest → ⊥) → NoneStands SpellsBulk bytes at
+no_bulk bytes at mid n p none text rest m here s =
+    let r = behind_first SpellsU32 bytes at mid n m text s.front s.back rest once_u32 p here s.parts s.first in
+    none rest (r.1 ∙ ap (λ (t : List ℕ). t ++ rest) (s.second ∙ ap memories_of (sym r.0)))
+
+pub no_bulk_first : (bytes : List ℕ) (at mid n : ℕ) → Stands SpellsU32 bytes at mid n → NoZero bytes mid → NoneStands SpellsBulk bytes at
+no_bulk_first bytes at mid n p none =
+    let some = bulk_some n in
+    no_bulk bytes at mid n p (λ rest e. none (some.0 ++ rest) (e ∙ ap (λ (t : List ℕ). t ++ rest) some.1))
+
+pub no_bulk_second : (bytes : List ℕ) (at mid next n : ℕ) → n ≡ 10 → Stands SpellsU32 bytes at mid n
+    → (next ≡ mid + 1) × (mid < length bytes) × (get_or bytes mid 0 ≡ 0) → NoZero bytes next → NoneStands SpellsBulk bytes at
+no_bulk_second bytes at mid next n two p y none =
+    let first = zero_here bytes mid next y in
+    no_bulk bytes at mid n p (λ rest e. let f : 0 ∷ drop next bytes ≡ 0 ∷ 0 ∷ rest = sym first.0 ∙ e ∙ ap (λ (t : List ℕ). t ++ rest) (bulk_two n two) in none rest cc)
+
+-- ---- what the kinds are made of
 
 pub not_zero_table : (bytes : List ℕ) (at mid end type table : ℕ) → Stands SpellsU32 bytes at mid type → Stands SpellsU32 bytes mid end table → table ≢ 0 → NoneStands SpellsSignature bytes at
 not_zero_table bytes at mid end type table p q ne text rest v here s =
@@ -151,35 +329,11 @@ raw_64_stands bytes at mid end low high n is p q = record {
   within = q.within;
 }
 
-pub kind_at : (n op k : ℕ) → n ≡ op → shape_of op ≡ k → shape_of n ≡ k
-kind_at n op k e h = ap shape_of e ∙ h
-
-pub from_i32 : (t : Immediates) (text : List ℕ) → shape t ≡ 6 → SpellsImmediates text t → (v : ℤ) × SpellsI32 text v
-from_i32 t text e p =
-    let s = from_signed_32 t text e p in
-    let below : s.0 < 2 ^ 32 = signed_below 2147483648 text s.0 s.1 in
-    (cast_signed w32 s.0, subst (λ (m : ℕ). SpellsS32 text m) (sym (of_z-to_z w32 s.0 below)) s.1)
-
-pub from_i64 : (t : Immediates) (text : List ℕ) → shape t ≡ 7 → SpellsImmediates text t → (v : ℤ) × SpellsI64 text v
-from_i64 t text e p =
-    let s = from_signed_64 t text e p in
-    let below : s.0 < 2 ^ 64 = signed_below 9223372036854775808 text s.0 s.1 in
-    (cast_signed w64 s.0, subst (λ (m : ℕ). SpellsS64 text m) (sym (of_z-to_z w64 s.0 below)) s.1)
-
-pub memory_stands : (bytes : List ℕ) (at end : ℕ) (i : Instr) → at < length bytes → IsMade i (get_or bytes at 0) memory → (end ≡ at + 1 + 1) × (at + 1 < length bytes) × (get_or bytes (at + 1) 0 ≡ 0) → Stands SpellsPlain bytes at end i
-memory_stands bytes at end i lt made z =
-    let P : List ℕ → ℕ → Type 0 = λ text v. text ≡ 0 ∷ [] in
-    let s : Stands P bytes (at + 1) (at + 1 + 1) 0 = record { text = 0 ∷ []; spelled = refl; here = next bytes (at + 1) z.1 ∙ ap (λ (b : ℕ). b ∷ drop (at + 1 + 1) bytes) z.2; within = omega (arith, z.1) } in
-    subst (λ (n : ℕ). Stands SpellsPlain bytes at n i) (sym z.0) (made_stands P memory bytes at (at + 1 + 1) i 0 lt made (λ text h. h) s)
-
-pub not_memory : (bytes : List ℕ) (at : ℕ) → at < length bytes → shape_of (get_or bytes at 0) ≡ 5 → NoZero bytes (at + 1) → NoneStands SpellsPlain bytes at
-not_memory bytes at lt is none text rest i here s =
-    let o = opened bytes at text rest i lt here s in
-    none rest (o.1 ∙ ap (λ (t : List ℕ). t ++ rest) (from_memory (immediates i) s.rest (o.2 ∙ is) s.spelled))
-
-pub stop_made : (bytes : List ℕ) (at : ℕ) (s : Stop) → at < length bytes → get_or bytes at 0 ≡ 0x0E → ReadsOr (Both (Counted SpellsU32) SpellsU32) bytes (at + 1) (Err s) → ReadsOr SpellsPlain bytes at (Err s)
-stop_made bytes at stop.No lt is h = not_made (Both (Counted SpellsU32) SpellsU32) 2 bytes at lt (kind_at _ 0x0E 2 is refl) from_labels h
-stop_made bytes at stop.Memory lt is h = tt
+-- what was refused behind the opcode
+pub stops_behind : (bytes : List ℕ) (at : ℕ) (s : Stop) → at < length bytes → Follows (get_or bytes at 0) (Some kind.Labels)
+    → ReadsOr (Both (Counted SpellsU32) SpellsU32) bytes (at + 1) (Err s) → ReadsOr SpellsPlain bytes at (Err s)
+stops_behind bytes at stop.No lt is h = not_read (Both (Counted SpellsU32) SpellsU32) labels_tag kind.Labels bytes at labels_kind lt is h
+stops_behind bytes at stop.Memory lt is h = tt
 
 pub stop_first : {A B : Type 0} (P : List ℕ → A → Type 0) (Q : List ℕ → B → Type 0) (bytes : List ℕ) (start : ℕ) (s : Stop) → ReadsOr P bytes start (Err s) → ReadsOr (Both P Q) bytes start (Err s)
 stop_first P Q bytes start stop.No h = none_both_first P Q bytes start h
@@ -191,6 +345,8 @@ pub skips_both : {A B : Type 0} (P : List ℕ → A → Type 0) (Q : List ℕ �
 skips_both P Q bytes start mid v (Some end) once p q = ((v, q.0), both_stands P Q bytes start mid end v q.0 p q.1)
 skips_both P Q bytes start mid v None once p q = none_both_second P Q bytes start mid v once p q
 
-pub skips_branches : (bytes : List ℕ) (at : ℕ) (end : Option ℕ) → at < length bytes → get_or bytes at 0 ≡ 0x0E → Skips (Both (Counted SpellsU32) SpellsU32) bytes (at + 1) end → Skips SpellsPlain bytes at end
-skips_branches bytes at (Some end) lt is q = (BrTable q.0.0 q.0.1, made_stands (Both (Counted SpellsU32) SpellsU32) (labels q.0.0 q.0.1) bytes at end (BrTable q.0.0 q.0.1) q.0 lt (sym is, refl) (λ text h. h) q.1)
-skips_branches bytes at None lt is q = not_made (Both (Counted SpellsU32) SpellsU32) 2 bytes at lt (kind_at _ 0x0E 2 is refl) from_labels q
+pub skips_branches : (bytes : List ℕ) (at : ℕ) (end : Option ℕ) → at < length bytes → Follows (get_or bytes at 0) (Some kind.Labels) → 0x0E ≡ get_or bytes at 0
+    → Skips (Both (Counted SpellsU32) SpellsU32) bytes (at + 1) end → Skips SpellsPlain bytes at end
+skips_branches bytes at (Some end) lt is op q =
+    (BrTable q.0.0 q.0.1, made (Both (Counted SpellsU32) SpellsU32) labels_tag kind.Labels bytes at end (BrTable q.0.0 q.0.1) q.0 labels_kind lt (op, refl) q.1)
+skips_branches bytes at None lt is op q = not_read (Both (Counted SpellsU32) SpellsU32) labels_tag kind.Labels bytes at labels_kind lt is q

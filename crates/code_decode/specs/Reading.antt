@@ -4,7 +4,6 @@ use Rattle.wasm_types.specs.declared.module.ValType.{ValType}
 use Rattle.wasm_types.specs.declared.instr.Instr.{Instr}
 use Rattle.wasm_types.specs.Code.{Code, done, onto, code_of, nest}
 use Rattle.wasm_types.specs.Standing.{Stands, NoneStands}
-use Rattle.wasm_types.specs.Plain.{Immediates, opcode, immediates}
 use Rattle.wasm_types.specs.Grammar.{SpellsCode, Encloses, IsEnder}
 use Rattle.code_decode.specs.declared.outcome.Stop.{Stop}
 use Rattle.code_decode.specs.declared.outcome.Stop.TheVariants as stop
@@ -19,10 +18,6 @@ ReadsOr Spelled bytes start (Err stop.Memory) = Unit {0}
 abbrev pub Skips : {A : Type 0} → (List ℕ → A → Type 0) → List ℕ → ℕ → Option ℕ → Type 0
 Skips {A} Spelled bytes start (Some end) = (v : A) × Stands Spelled bytes start end v
 Skips Spelled bytes start None = NoneStands Spelled bytes start
-
--- the instruction has this opcode, and this follows
-abbrev pub IsMade : Instr → ℕ → Immediates → Type 0
-IsMade i byte rest = (opcode i ≡ byte) × (immediates i ≡ rest)
 
 -- no byte 0 stands at the place
 abbrev pub NoZero : List ℕ → ℕ → Type 0

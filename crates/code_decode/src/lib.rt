@@ -6,9 +6,6 @@ mod outcome;
 mod plain;
 mod read;
 mod scan;
-mod table;
-#[cfg(test)]
-mod tests;
 
 pub use expr::{CodeRefusal, read_expr};
 pub use outcome::Stop;

@@ -1,18 +1,23 @@
 //! Plain instructions, those that hold no others (section 5.4).
 
-ghost use Rattle.std.specs.Prelude.{◌≡◌, ◌≢◌, ◌<◌, ◌≤◌, ◌+◌, MatchOption, length, slice_index};
+ghost use Rattle.std.specs.Prelude.{◌≡◌, ◌≢◌, ◌<◌, ◌+◌, MatchOption, Some, length, slice_index};
 ghost use Rattle.wasm_types.specs.Numbers.{SpellsU32};
 ghost use Rattle.wasm_types.specs.Standing.{Reads};
 ghost use Rattle.wasm_types.specs.Parts.{Both, Counted};
-ghost use Rattle.wasm_types.specs.Plain.{SpellsAddress, SpellsSignature, SpellsRaw32, SpellsRaw64, SpellsPlain};
+ghost use Rattle.wasm_types.specs.Plain.{SpellsAddress, SpellsSignature, SpellsRaw32, SpellsRaw64, SpellsBulk, SpellsPlain};
+ghost use Rattle.opcode_table.specs.declared.instructions.Following.TheVariants as kind;
+ghost use Rattle.opcode_table.specs.Table.{Follows};
 ghost use Rattle.code_decode.specs.Reading.{ReadsOr, Skips, NoZero};
 
 use crate::outcome::Stop;
-use crate::table::{bare, takes_address, takes_number, with_address, with_number};
 use leb_codec::{read_s32, read_s64, read_u32};
+use opcode_table::{
+    Following, bare, what_follows, with_address, with_bulk, with_labels, with_memory, with_number,
+    with_raw_32, with_raw_64, with_signature, with_signed_32, with_signed_64,
+};
 use sqlite_items::Items;
 use std::alloc::Global;
-use wasm_types::{FloatInstr, Instr, MemArg};
+use wasm_types::{Instr, MemArg};
 
 /// The vector of unsigned 32-bit numbers that stands at `at` (section 5.1.3), and the place after it. `No` where none does.
 pub(crate) fn read_numbers(
@@ -150,70 +155,122 @@ fn skip_branches(bytes: &[u8], at: usize) -> Option<usize>
     }
 }
 
-/// The constant that stands at `at`.
-fn read_constant(bytes: &[u8], at: usize) -> Option<(Instr, usize)>
-    requires within { at < length bytes.now }
-    requires low { 0x41 ≤ slice_index bytes.now at }
-    requires high { slice_index bytes.now at ≤ 0x44 }
-    ensures { Reads SpellsPlain bytes.now at result }
+/// The number of an instruction on ranges of memory, and a byte 0 for each memory.
+fn read_bulk(bytes: &[u8], at: usize) -> Option<(u32, usize)>
+    ensures { Reads SpellsBulk bytes.now at result }
 {
-    match bytes[at] {
-        0x41 => match read_s32(bytes, at + 1) {
-            Some((value, end)) => Some((Instr::I32Const(value.cast_unsigned()), end)),
-            None => None,
-        },
-        0x42 => match read_s64(bytes, at + 1) {
-            Some((value, end)) => Some((Instr::I64Const(value.cast_unsigned()), end)),
-            None => None,
-        },
-        0x43 => match read_raw_32(bytes, at + 1) {
-            Some((value, end)) => Some((Instr::Float(FloatInstr::Const32(value)), end)),
-            None => None,
-        },
-        _ => match read_raw_64(bytes, at + 1) {
-            Some((value, end)) => Some((Instr::Float(FloatInstr::Const64(value)), end)),
-            None => None,
-        },
+    let Some((which, middle)) = read_u32(bytes, at) else {
+        return None;
+    };
+    let Some(next) = read_zero(bytes, middle) else {
+        return None;
+    };
+    if which != 10 {
+        return Some((which, next));
     }
+    let Some(end) = read_zero(bytes, next) else {
+        return None;
+    };
+    Some((which, end))
 }
 
-/// The instruction that stands at `at`, if it is one that holds no others and no list of labels.
-fn read_flat(bytes: &[u8], at: usize) -> Option<(Instr, usize)>
+/// The instruction that stands at `at`, where this follows its opcode and no labels do.
+fn read_behind(bytes: &[u8], at: usize, follows: Following) -> Option<(Instr, usize)>
     requires within { at < length bytes.now }
-    requires other { slice_index bytes.now at ≢ 0x0E }
+    requires known { Follows (slice_index bytes.now at) (Some follows) }
+    requires other { follows ≢ kind.Labels }
     ensures { Reads SpellsPlain bytes.now at result }
 {
     let opcode = bytes[at];
-    if takes_number(opcode) {
-        return match read_u32(bytes, at + 1) {
-            Some((x, end)) => Some((with_number(opcode, x), end)),
-            None => None,
-        };
-    }
-    if takes_address(opcode) {
-        return match read_address(bytes, at + 1) {
-            Some((place, end)) => Some((with_address(opcode, place), end)),
-            None => None,
-        };
-    }
-    match opcode {
-        0x11 => match read_signature(bytes, at + 1) {
-            Some((kind, end)) => Some((Instr::CallIndirect(kind), end)),
-            None => None,
-        },
-        0x3F => match read_zero(bytes, at + 1) {
-            Some(end) => Some((Instr::MemorySize, end)),
-            None => None,
-        },
-        0x40 => match read_zero(bytes, at + 1) {
-            Some(end) => Some((Instr::MemoryGrow, end)),
-            None => None,
-        },
-        0x41..=0x44 => read_constant(bytes, at),
-        _ => match bare(opcode) {
-            Some(instr) => Some((instr, at + 1)),
-            None => None,
-        },
+    match follows {
+        Following::Nothing => {
+            let Some(instr) = bare(opcode) else {
+                return None;
+            };
+            Some((instr, at + 1))
+        }
+        Following::Number => {
+            let Some((x, end)) = read_u32(bytes, at + 1) else {
+                return None;
+            };
+            let Some(instr) = with_number(opcode, x) else {
+                return None;
+            };
+            Some((instr, end))
+        }
+        Following::Labels => None,
+        Following::Signature => {
+            let Some((kind, end)) = read_signature(bytes, at + 1) else {
+                return None;
+            };
+            let Some(instr) = with_signature(opcode, kind) else {
+                return None;
+            };
+            Some((instr, end))
+        }
+        Following::Address => {
+            let Some((place, end)) = read_address(bytes, at + 1) else {
+                return None;
+            };
+            let Some(instr) = with_address(opcode, place) else {
+                return None;
+            };
+            Some((instr, end))
+        }
+        Following::Memory => {
+            let Some(end) = read_zero(bytes, at + 1) else {
+                return None;
+            };
+            let Some(instr) = with_memory(opcode) else {
+                return None;
+            };
+            Some((instr, end))
+        }
+        Following::Signed32 => {
+            let Some((value, end)) = read_s32(bytes, at + 1) else {
+                return None;
+            };
+            let Some(instr) = with_signed_32(opcode, value.cast_unsigned()) else {
+                return None;
+            };
+            Some((instr, end))
+        }
+        Following::Signed64 => {
+            let Some((value, end)) = read_s64(bytes, at + 1) else {
+                return None;
+            };
+            let Some(instr) = with_signed_64(opcode, value.cast_unsigned()) else {
+                return None;
+            };
+            Some((instr, end))
+        }
+        Following::Raw32 => {
+            let Some((value, end)) = read_raw_32(bytes, at + 1) else {
+                return None;
+            };
+            let Some(instr) = with_raw_32(opcode, value) else {
+                return None;
+            };
+            Some((instr, end))
+        }
+        Following::Raw64 => {
+            let Some((value, end)) = read_raw_64(bytes, at + 1) else {
+                return None;
+            };
+            let Some(instr) = with_raw_64(opcode, value) else {
+                return None;
+            };
+            Some((instr, end))
+        }
+        Following::Bulk => {
+            let Some((which, end)) = read_bulk(bytes, at + 1) else {
+                return None;
+            };
+            let Some(instr) = with_bulk(opcode, which) else {
+                return None;
+            };
+            Some((instr, end))
+        }
     }
 }
 
@@ -222,14 +279,22 @@ pub(crate) fn read_plain(alloc: Global, bytes: &[u8], at: usize) -> Result<(Inst
     requires { at < length bytes.now }
     ensures { ReadsOr SpellsPlain bytes.now at result }
 {
-    if bytes[at] == 0x0E {
-        return match read_branches(alloc, bytes, at + 1) {
-            Ok((branches, end)) => Ok((Instr::BrTable(branches.0, branches.1), end)),
-            Err(stop) => Err(stop),
-        };
-    }
-    match read_flat(bytes, at) {
-        Some(found) => Ok(found),
+    let opcode = bytes[at];
+    match what_follows(opcode) {
+        Some(Following::Labels) => {
+            let (branches, end) = match read_branches(alloc, bytes, at + 1) {
+                Ok(found) => found,
+                Err(stop) => return Err(stop),
+            };
+            match with_labels(opcode, branches.0, branches.1) {
+                Some(instr) => Ok((instr, end)),
+                None => Err(Stop::No),
+            }
+        }
+        Some(follows) => match read_behind(bytes, at, follows) {
+            Some(found) => Ok(found),
+            None => Err(Stop::No),
+        },
         None => Err(Stop::No),
     }
 }
@@ -239,11 +304,12 @@ pub(crate) fn skip_plain(bytes: &[u8], at: usize) -> Option<usize>
     requires { at < length bytes.now }
     ensures { Skips SpellsPlain bytes.now at result }
 {
-    if bytes[at] == 0x0E {
-        return skip_branches(bytes, at + 1);
-    }
-    match read_flat(bytes, at) {
-        Some((_instr, end)) => Some(end),
+    match what_follows(bytes[at]) {
+        Some(Following::Labels) => skip_branches(bytes, at + 1),
+        Some(follows) => match read_behind(bytes, at, follows) {
+            Some((_instr, end)) => Some(end),
+            None => None,
+        },
         None => None,
     }
 }

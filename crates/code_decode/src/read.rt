@@ -1,29 +1,14 @@
 //! Sequences of instructions (sections 5.4.1 and 5.4.6).
 
-ghost use Rattle.std.specs.Prelude.{◌≡◌, ◌≢◌, ◌<◌, ◌≤◌, MatchOption, Option, length, slice_index};
-ghost use Rattle.wasm_types.specs.declared.module.ValType.{ValType};
-ghost use Rattle.wasm_types.specs.Types.{kind_byte};
+ghost use Rattle.std.specs.Prelude.{◌≡◌, ◌<◌, ◌≤◌, length, slice_index};
 ghost use Rattle.code_decode.specs.Reading.{ReadsCode, ReadsInstr, ReadsEnclosed};
 
 use crate::outcome::Stop;
 use crate::plain::read_plain;
+use opcode_table::block_kind;
 use sqlite_items::Items;
 use std::alloc::Global;
 use wasm_types::{Instr, ValType};
-
-/// The block type of a byte (section 5.3.2).
-pub(crate) fn read_kind(byte: u8) -> Option<Option<ValType>>
-    ensures { MatchOption result ((k : Option ValType) → byte ≢ kind_byte k) (λ k. byte ≡ kind_byte k) }
-{
-    match byte {
-        0x40 => Some(None),
-        0x7F => Some(Some(ValType::I32)),
-        0x7E => Some(Some(ValType::I64)),
-        0x7D => Some(Some(ValType::F32)),
-        0x7C => Some(Some(ValType::F64)),
-        _ => None,
-    }
-}
 
 /// The items, without the room that was kept for more: a module has many short sequences, and most of its memory is theirs.
 fn fitted<T>(mut items: Vec<T>) -> Items<T>
@@ -46,7 +31,7 @@ fn read_enclosed(
     if room == 0 || at + 1 >= bytes.len() {
         return Err(Stop::No);
     }
-    let Some(kind) = read_kind(bytes[at + 1]) else {
+    let Some(kind) = block_kind(bytes[at + 1]) else {
         return Err(Stop::No);
     };
     let (inner, end) = read_code(alloc, bytes, at + 2, room - 1)?;
@@ -65,7 +50,7 @@ fn read_if(alloc: Global, bytes: &[u8], at: usize, room: u32) -> Result<(Instr, 
     if room == 0 || at + 1 >= bytes.len() {
         return Err(Stop::No);
     }
-    let kind = match read_kind(bytes[at + 1]) {
+    let kind = match block_kind(bytes[at + 1]) {
         Some(kind) => kind,
         None => return Err(Stop::No),
     };

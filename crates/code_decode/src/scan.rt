@@ -6,7 +6,7 @@ ghost use Rattle.code_decode.specs.Reading.{Skips};
 ghost use Rattle.code_decode.specs.Scan.{Steps, Opens};
 
 use crate::plain::skip_plain;
-use crate::read::read_kind;
+use opcode_table::block_kind;
 use std::alloc::{AllocError, Global};
 
 /// What one step of the scan found.
@@ -30,7 +30,7 @@ fn open_step(
     if place + 1 >= bytes.len() {
         return Ok(Step::Bad);
     }
-    match read_kind(bytes[place + 1]) {
+    match block_kind(bytes[place + 1]) {
         None => Ok(Step::Bad),
         Some(_) => {
             blocks.push(half)?;

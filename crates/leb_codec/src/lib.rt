@@ -3,8 +3,6 @@
 
 mod laws;
 mod read;
-#[cfg(test)]
-mod tests;
 mod write;
 
 pub use laws::{law_one_text, law_shortest_signed, law_shortest_unsigned};

@@ -68,6 +68,10 @@ fn read_signed(bytes: &[u8], at: usize, half: u64) -> Option<(u64, usize)>
 pub fn read_u32(bytes: &[u8], at: usize) -> Option<(u32, usize)>
     ensures { Reads SpellsU32 bytes.now at result }
 {
+    // Most numbers are of one byte, and this branch is short enough to be copied into the callers.
+    if at < bytes.len() && bytes[at] < 128 {
+        return Some((u32::from(bytes[at]), at + 1));
+    }
     match read_unsigned(bytes, at, 1 << 32) {
         Some((value, end)) => Some((value as u32, end)),
         None => None,

@@ -15,6 +15,3 @@ pub use memory::{MemSink, MemSource, QuietSource};
 pub use sink::{Sink, StdSink};
 pub use source::{Source, StdSource};
 pub use whole::{ReadEnd, read_all, write_all};
-
-#[cfg(test)]
-mod tests;

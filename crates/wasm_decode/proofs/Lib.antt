@@ -1,6 +1,5 @@
 pub mod EntryLemmas
 pub mod PartLemmas
-pub mod ShapeLemmas
 pub mod FrameLemmas
 pub mod ContentsLemmas
 pub mod StepLemmas

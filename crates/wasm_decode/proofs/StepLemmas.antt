@@ -1,8 +1,10 @@
 -- The module, section by section.
-use Rattle.std.proofs.Common.{◌≡◌, ◌≢◌, ◌==◌, ℕ, ◌+◌, ◌<◌, ◌⊎◌, inl, inr, max, Bool, true, false, List, [], ◌∷◌, ◌++◌, length, get_or, take, drop, drop-cons, add-one, Option, Some, None, Ok, Err, refl, sym, ap, subst, ◌∙◌, arith}
+use Rattle.std.proofs.Common.{◌≡◌, ◌≢◌, ◌==◌, ℕ, ◌+◌, ◌<◌, ◌⊎◌, inl, inr, max, Bool, true, false, List, [], ◌∷◌, ◌++◌, length, get_or, take, drop, drop-cons, add-one, lit<, Option, Some, None, Ok, Err, refl, sym, ap, subst, ◌∙◌, arith}
 use Rattle.std.specs.Prelude.{All, map, slice_range, if◌then◌else◌}
 use Rattle.std.specs.List.{slice_get}
-use Rattle.std.proofs.lemmas.List.{append-nil, length-take-le, take-append-drop, take_more}
+use Rattle.std.proofs.lemmas.Option.{slice_get_within}
+use Rattle.std.proofs.lemmas.List.Elements.{All-push}
+use Rattle.std.proofs.lemmas.List.{append-nil, map-append, length-map, length-take-le, take-append-drop, take_more}
 use Rattle.std.proofs.Math.Seq.{take-length}
 use Rattle.std.proofs.lemmas.Bool.Decides.{nat_tests}
 use Rattle.wasm_types.specs.declared.module.Module.{Module}
@@ -16,39 +18,38 @@ use Rattle.code_decode.specs.declared.outcome.Stop.{Stop}
 use Rattle.code_decode.specs.declared.outcome.Stop.TheVariants as no
 use Rattle.wasm_decode.specs.declared.frames.Frame.{Frame}
 use Rattle.wasm_decode.specs.declared.refusal.DecodeEnd.{DecodeEnd}
-use Rattle.wasm_decode.specs.Frames.{IsFramed, frame_at}
-use Rattle.wasm_decode.specs.Contents.{Contents, custom, types, imports, funcs, tables, mems, globals, exports, start, elems, bodies, segments, SpellsSection, IsSpelled, IsShallowContents, IsShallowSection, FirstUnspelled, FirstDeep, HasParts, put, IsPut, ReadsSection}
+use Rattle.wasm_decode.specs.Frames.{Section, IsFramed, frame_at}
+use Rattle.wasm_decode.specs.Contents.{Contents, custom, types, imports, funcs, tables, mems, globals, exports, start, elems, bodies, segments, SpellsSection, IsSpelled, section_id, IsShallowContents, IsShallowSection, FirstUnspelled, FirstDeep, HasParts, put, IsPut, ReadsSection}
 use Rattle.wasm_decode.specs.Decode.{IsRead, Refuses, ReadsSections, first_deep}
-use Rattle.wasm_decode.proofs.EntryLemmas.{get-front, get-within, get-last, get-in, all-get, all-snoc}
-use Rattle.wasm_decode.proofs.FrameLemmas.{length-map_frame_at}
+use Rattle.wasm_decode.proofs.EntryLemmas.{get-front, get-within, get-next, all-get}
 
 -- ---- the contents of the section with an id
 
-pub contents_skip : (id : ℕ) (fs : List (ℕ × List ℕ)) (f : ℕ × List ℕ) → f.0 ≢ id → contents_of id (fs ++ f ∷ []) ≡ contents_of id fs
-contents_skip id [] f ne = grind (arith, nat_tests)
-contents_skip id (g ∷ gs) f ne = ap (λ (o : Option (List ℕ)). if g.0 == id then Some g.1 else o) (contents_skip id gs f ne)
+contents_skip : (id : ℕ) (fs : List Section) (f : Section) → (f.0 == id) ≡ false → contents_of id (fs ++ f ∷ []) ≡ contents_of id fs
+contents_skip id [] f other = ap (λ (b : Bool). if b then Some f.1 else None) other
+contents_skip id (g ∷ gs) f other = ap (λ (o : Option (List ℕ)). if g.0 == id then Some g.1 else o) (contents_skip id gs f other)
 
-contents_past : (id : ℕ) (gs : List (ℕ × List ℕ)) (f g : ℕ × List ℕ) (same : Bool) → f.0 ≡ id → (if same then Some g.1 else contents_of id gs) ≡ None → (contents_of id gs ≡ None → contents_of id (gs ++ f ∷ []) ≡ Some f.1)
-    → (if same then Some g.1 else contents_of id (gs ++ f ∷ [])) ≡ Some f.1
+contents_past : (id : ℕ) (gs : List Section) (f g : Section) (same : Bool) → f.0 ≡ id → (if same then Some g.1 else contents_of id gs) ≡ None
+    → (contents_of id gs ≡ None → contents_of id (gs ++ f ∷ []) ≡ Some f.1) → (if same then Some g.1 else contents_of id (gs ++ f ∷ [])) ≡ Some f.1
 contents_past id gs f g true e none more = absurd cc
 contents_past id gs f g false e none more = more none
 
-pub contents_new : (id : ℕ) (fs : List (ℕ × List ℕ)) (f : ℕ × List ℕ) → f.0 ≡ id → contents_of id fs ≡ None → contents_of id (fs ++ f ∷ []) ≡ Some f.1
+contents_new : (id : ℕ) (fs : List Section) (f : Section) → f.0 ≡ id → contents_of id fs ≡ None → contents_of id (fs ++ f ∷ []) ≡ Some f.1
 contents_new id [] f e none = grind (arith, nat_tests)
 contents_new id (g ∷ gs) f e none = contents_past id gs f g (g.0 == id) e none (contents_new id gs f e)
 
 -- no section before it has its id, unless it is a custom one
-abbrev pub IsNew : List (ℕ × List ℕ) → ℕ × List ℕ → Type 0
+abbrev pub IsNew : List Section → Section → Type 0
 IsNew fs f = (f.0 ≡ 0) ⊎ (contents_of f.0 fs ≡ None)
 
-above : (low final : ℕ) (fs : List (ℕ × List ℕ)) (f : ℕ × List ℕ) (rest : List (ℕ × List ℕ)) → InOrder low (fs ++ f ∷ rest) final → (f.0 ≡ 0) ⊎ (low < f.0)
+above : (low final : ℕ) (fs : List Section) (f : Section) (rest : List Section) → InOrder low (fs ++ f ∷ rest) final → (f.0 ≡ 0) ⊎ (low < f.0)
 above low final [] f rest h = elim h.0 [ inl e ↦ inl e | inr m ↦ inr m.0 ]
 above low final (g ∷ gs) f rest h = elim (above (max low g.0) final gs f rest h.1) [ inl e ↦ inl e | inr lt ↦ inr (omega arith) ]
 
-skip_one : (id : ℕ) (gs : List (ℕ × List ℕ)) (g : ℕ × List ℕ) → g.0 < id → contents_of id gs ≡ None → contents_of id (g ∷ gs) ≡ None
+skip_one : (id : ℕ) (gs : List Section) (g : Section) → g.0 < id → contents_of id gs ≡ None → contents_of id (g ∷ gs) ≡ None
 skip_one id gs g lt none = grind (arith, nat_tests)
 
-pub is_new : (low final : ℕ) (fs : List (ℕ × List ℕ)) (f : ℕ × List ℕ) (rest : List (ℕ × List ℕ)) → InOrder low (fs ++ f ∷ rest) final → IsNew fs f
+pub is_new : (low final : ℕ) (fs : List Section) (f : Section) (rest : List Section) → InOrder low (fs ++ f ∷ rest) final → IsNew fs f
 is_new low final [] f rest h = inr refl
 is_new low final (g ∷ gs) f rest h =
     elim (above (max low g.0) final gs f rest h.1) [
@@ -56,23 +57,18 @@ is_new low final (g ∷ gs) f rest h =
       | inr lt ↦ elim (is_new (max low g.0) final gs f rest h.1) [ inl e ↦ inl e | inr none ↦ inr (skip_one f.0 gs g (omega arith) none) ]
     ]
 
-new_at : (id : ℕ) (fs : List (ℕ × List ℕ)) (f : ℕ × List ℕ) → 0 < id → id ≡ f.0 → IsNew fs f → contents_of id (fs ++ f ∷ []) ≡ Some f.1
-new_at id fs f some e (inl zero) = absurd (omega arith)
-new_at id fs f some e (inr none) = contents_new id fs f (sym e) (subst (λ (n : ℕ). contents_of n fs ≡ None) (sym e) none)
+-- what holds of the contents with an id, after a section of another id
+kept : (id : ℕ) (fs : List Section) (f : Section) (c : Contents) (P : Option (List ℕ) → Type 0) → SpellsSection f c → (section_id c == id) ≡ false
+    → P (contents_of id fs) → P (contents_of id (fs ++ f ∷ []))
+kept id fs f c P s other h = subst P (sym (contents_skip id fs f (ap (λ (n : ℕ). n == id) (sym s.0) ∙ other))) h
 
-list_kept : {A : Type 0} (P : List ℕ → List A → Type 0) (xs : List A) (id : ℕ) (fs : List (ℕ × List ℕ)) (f : ℕ × List ℕ) → f.0 ≢ id → ListIs P xs (contents_of id fs) → ListIs P xs (contents_of id (fs ++ f ∷ []))
-list_kept P xs id fs f ne h = subst (ListIs P xs) (sym (contents_skip id fs f ne)) h
+-- and after the one of the id
+put_now : (id : ℕ) (fs : List Section) (f : Section) (P : Option (List ℕ) → Type 0) → 0 < id → id ≡ f.0 → IsNew fs f → P (Some f.1)
+    → P (contents_of id (fs ++ f ∷ []))
+put_now id fs f P some e (inl zero) p = absurd (omega arith)
+put_now id fs f P some e (inr none) p = subst P (sym (contents_new id fs f (sym e) (subst (λ (n : ℕ). contents_of n fs ≡ None) (sym e) none))) p
 
-list_new : {A : Type 0} (P : List ℕ → List A → Type 0) (xs : List A) (id : ℕ) (fs : List (ℕ × List ℕ)) (f : ℕ × List ℕ) → 0 < id → id ≡ f.0 → IsNew fs f → P f.1 xs → ListIs P xs (contents_of id (fs ++ f ∷ []))
-list_new P xs id fs f some e new p = subst (ListIs P xs) (sym (new_at id fs f some e new)) p
-
-start_kept : (v : Option ℕ) (fs : List (ℕ × List ℕ)) (f : ℕ × List ℕ) → f.0 ≢ 8 → OptionIs SpellsU32 v (contents_of 8 fs) → OptionIs SpellsU32 v (contents_of 8 (fs ++ f ∷ []))
-start_kept v fs f ne h = subst (OptionIs SpellsU32 v) (sym (contents_skip 8 fs f ne)) h
-
-start_new : (n : ℕ) (fs : List (ℕ × List ℕ)) (f : ℕ × List ℕ) → 8 ≡ f.0 → IsNew fs f → SpellsU32 f.1 n → OptionIs SpellsU32 (Some n) (contents_of 8 (fs ++ f ∷ []))
-start_new n fs f e new p = subst (OptionIs SpellsU32 (Some n)) (sym (new_at 8 fs f (omega arith) e new)) p
-
-pub names_skip : (fs : List (ℕ × List ℕ)) (f : ℕ × List ℕ) (v : Option (List ℕ)) → f.0 ≢ 0 → NamesAre fs v → NamesAre (fs ++ f ∷ []) v
+pub names_skip : (fs : List Section) (f : Section) (v : Option (List ℕ)) → f.0 ≢ 0 → NamesAre fs v → NamesAre (fs ++ f ∷ []) v
 names_skip [] f v ne h = (None, refl, inl (ne, h))
 names_skip (g ∷ gs) f v ne h = (h.0, names_skip gs f h.0 ne h.1, h.2)
 
@@ -84,7 +80,8 @@ later_none : (late : Option (List ℕ)) → later_of late None ≡ later_of None
 later_none (Some x) = refl
 later_none None = refl
 
-pub names_new : (fs : List (ℕ × List ℕ)) (f : ℕ × List ℕ) (v : Option (List ℕ)) (c : Name × List ℕ) → f.0 ≡ 0 → SpellsCustom f.1 c → NamesAre fs v → NamesAre (fs ++ f ∷ []) (later_of (named_payload c) v)
+pub names_new : (fs : List Section) (f : Section) (v : Option (List ℕ)) (c : Name × List ℕ) → f.0 ≡ 0 → SpellsCustom f.1 c → NamesAre fs v
+    → NamesAre (fs ++ f ∷ []) (later_of (named_payload c) v)
 names_new [] f v c e p h = (None, refl, inr (e, c, p, ap (later_of (named_payload c)) h ∙ later_none (named_payload c)))
 names_new (g ∷ gs) f v c e p h = (
   later_of (named_payload c) h.0,
@@ -97,174 +94,72 @@ names_new (g ∷ gs) f v c e p h = (
 
 -- ---- one section more
 
-pub parts_more : (fs : List (ℕ × List ℕ)) (f : ℕ × List ℕ) (m : Module) (c : Contents) → IsNew fs f → SpellsSection f c → HasParts fs m → HasParts (fs ++ f ∷ []) (put c m)
-parts_more fs f m (custom name payload) new s h = record {
-  types = list_kept SpellsTypes m.types 1 fs f (λ q. omega (arith, s.0, q)) h.types;
-  imports = list_kept SpellsImports m.imports 2 fs f (λ q. omega (arith, s.0, q)) h.imports;
-  funcs = list_kept SpellsFuncs m.funcs 3 fs f (λ q. omega (arith, s.0, q)) h.funcs;
-  tables = list_kept SpellsTables m.tables 4 fs f (λ q. omega (arith, s.0, q)) h.tables;
-  mems = list_kept SpellsMems m.mems 5 fs f (λ q. omega (arith, s.0, q)) h.mems;
-  globals = list_kept SpellsGlobals m.globals 6 fs f (λ q. omega (arith, s.0, q)) h.globals;
-  exports = list_kept SpellsExports m.exports 7 fs f (λ q. omega (arith, s.0, q)) h.exports;
-  start = start_kept m.start fs f (λ q. omega (arith, s.0, q)) h.start;
-  elems = list_kept SpellsElems m.elems 9 fs f (λ q. omega (arith, s.0, q)) h.elems;
-  bodies = list_kept SpellsBodies m.bodies 10 fs f (λ q. omega (arith, s.0, q)) h.bodies;
-  segments = list_kept SpellsSegments m.segments 11 fs f (λ q. omega (arith, s.0, q)) h.segments;
-  names = names_new fs f m.names (name, payload) (sym s.0) s.1 h.names;
-}
-parts_more fs f m (types xs) new s h = record {
-  types = list_new SpellsTypes xs 1 fs f (omega arith) s.0 new s.1;
-  imports = list_kept SpellsImports m.imports 2 fs f (λ q. omega (arith, s.0, q)) h.imports;
-  funcs = list_kept SpellsFuncs m.funcs 3 fs f (λ q. omega (arith, s.0, q)) h.funcs;
-  tables = list_kept SpellsTables m.tables 4 fs f (λ q. omega (arith, s.0, q)) h.tables;
-  mems = list_kept SpellsMems m.mems 5 fs f (λ q. omega (arith, s.0, q)) h.mems;
-  globals = list_kept SpellsGlobals m.globals 6 fs f (λ q. omega (arith, s.0, q)) h.globals;
-  exports = list_kept SpellsExports m.exports 7 fs f (λ q. omega (arith, s.0, q)) h.exports;
-  start = start_kept m.start fs f (λ q. omega (arith, s.0, q)) h.start;
-  elems = list_kept SpellsElems m.elems 9 fs f (λ q. omega (arith, s.0, q)) h.elems;
-  bodies = list_kept SpellsBodies m.bodies 10 fs f (λ q. omega (arith, s.0, q)) h.bodies;
-  segments = list_kept SpellsSegments m.segments 11 fs f (λ q. omega (arith, s.0, q)) h.segments;
-  names = names_skip fs f m.names (λ q. omega (arith, s.0, q)) h.names;
-}
-parts_more fs f m (imports xs) new s h = record {
-  types = list_kept SpellsTypes m.types 1 fs f (λ q. omega (arith, s.0, q)) h.types;
-  imports = list_new SpellsImports xs 2 fs f (omega arith) s.0 new s.1;
-  funcs = list_kept SpellsFuncs m.funcs 3 fs f (λ q. omega (arith, s.0, q)) h.funcs;
-  tables = list_kept SpellsTables m.tables 4 fs f (λ q. omega (arith, s.0, q)) h.tables;
-  mems = list_kept SpellsMems m.mems 5 fs f (λ q. omega (arith, s.0, q)) h.mems;
-  globals = list_kept SpellsGlobals m.globals 6 fs f (λ q. omega (arith, s.0, q)) h.globals;
-  exports = list_kept SpellsExports m.exports 7 fs f (λ q. omega (arith, s.0, q)) h.exports;
-  start = start_kept m.start fs f (λ q. omega (arith, s.0, q)) h.start;
-  elems = list_kept SpellsElems m.elems 9 fs f (λ q. omega (arith, s.0, q)) h.elems;
-  bodies = list_kept SpellsBodies m.bodies 10 fs f (λ q. omega (arith, s.0, q)) h.bodies;
-  segments = list_kept SpellsSegments m.segments 11 fs f (λ q. omega (arith, s.0, q)) h.segments;
-  names = names_skip fs f m.names (λ q. omega (arith, s.0, q)) h.names;
-}
-parts_more fs f m (funcs xs) new s h = record {
-  types = list_kept SpellsTypes m.types 1 fs f (λ q. omega (arith, s.0, q)) h.types;
-  imports = list_kept SpellsImports m.imports 2 fs f (λ q. omega (arith, s.0, q)) h.imports;
-  funcs = list_new SpellsFuncs xs 3 fs f (omega arith) s.0 new s.1;
-  tables = list_kept SpellsTables m.tables 4 fs f (λ q. omega (arith, s.0, q)) h.tables;
-  mems = list_kept SpellsMems m.mems 5 fs f (λ q. omega (arith, s.0, q)) h.mems;
-  globals = list_kept SpellsGlobals m.globals 6 fs f (λ q. omega (arith, s.0, q)) h.globals;
-  exports = list_kept SpellsExports m.exports 7 fs f (λ q. omega (arith, s.0, q)) h.exports;
-  start = start_kept m.start fs f (λ q. omega (arith, s.0, q)) h.start;
-  elems = list_kept SpellsElems m.elems 9 fs f (λ q. omega (arith, s.0, q)) h.elems;
-  bodies = list_kept SpellsBodies m.bodies 10 fs f (λ q. omega (arith, s.0, q)) h.bodies;
-  segments = list_kept SpellsSegments m.segments 11 fs f (λ q. omega (arith, s.0, q)) h.segments;
-  names = names_skip fs f m.names (λ q. omega (arith, s.0, q)) h.names;
-}
-parts_more fs f m (tables xs) new s h = record {
-  types = list_kept SpellsTypes m.types 1 fs f (λ q. omega (arith, s.0, q)) h.types;
-  imports = list_kept SpellsImports m.imports 2 fs f (λ q. omega (arith, s.0, q)) h.imports;
-  funcs = list_kept SpellsFuncs m.funcs 3 fs f (λ q. omega (arith, s.0, q)) h.funcs;
-  tables = list_new SpellsTables xs 4 fs f (omega arith) s.0 new s.1;
-  mems = list_kept SpellsMems m.mems 5 fs f (λ q. omega (arith, s.0, q)) h.mems;
-  globals = list_kept SpellsGlobals m.globals 6 fs f (λ q. omega (arith, s.0, q)) h.globals;
-  exports = list_kept SpellsExports m.exports 7 fs f (λ q. omega (arith, s.0, q)) h.exports;
-  start = start_kept m.start fs f (λ q. omega (arith, s.0, q)) h.start;
-  elems = list_kept SpellsElems m.elems 9 fs f (λ q. omega (arith, s.0, q)) h.elems;
-  bodies = list_kept SpellsBodies m.bodies 10 fs f (λ q. omega (arith, s.0, q)) h.bodies;
-  segments = list_kept SpellsSegments m.segments 11 fs f (λ q. omega (arith, s.0, q)) h.segments;
-  names = names_skip fs f m.names (λ q. omega (arith, s.0, q)) h.names;
-}
-parts_more fs f m (mems xs) new s h = record {
-  types = list_kept SpellsTypes m.types 1 fs f (λ q. omega (arith, s.0, q)) h.types;
-  imports = list_kept SpellsImports m.imports 2 fs f (λ q. omega (arith, s.0, q)) h.imports;
-  funcs = list_kept SpellsFuncs m.funcs 3 fs f (λ q. omega (arith, s.0, q)) h.funcs;
-  tables = list_kept SpellsTables m.tables 4 fs f (λ q. omega (arith, s.0, q)) h.tables;
-  mems = list_new SpellsMems xs 5 fs f (omega arith) s.0 new s.1;
-  globals = list_kept SpellsGlobals m.globals 6 fs f (λ q. omega (arith, s.0, q)) h.globals;
-  exports = list_kept SpellsExports m.exports 7 fs f (λ q. omega (arith, s.0, q)) h.exports;
-  start = start_kept m.start fs f (λ q. omega (arith, s.0, q)) h.start;
-  elems = list_kept SpellsElems m.elems 9 fs f (λ q. omega (arith, s.0, q)) h.elems;
-  bodies = list_kept SpellsBodies m.bodies 10 fs f (λ q. omega (arith, s.0, q)) h.bodies;
-  segments = list_kept SpellsSegments m.segments 11 fs f (λ q. omega (arith, s.0, q)) h.segments;
-  names = names_skip fs f m.names (λ q. omega (arith, s.0, q)) h.names;
-}
-parts_more fs f m (globals xs) new s h = record {
-  types = list_kept SpellsTypes m.types 1 fs f (λ q. omega (arith, s.0, q)) h.types;
-  imports = list_kept SpellsImports m.imports 2 fs f (λ q. omega (arith, s.0, q)) h.imports;
-  funcs = list_kept SpellsFuncs m.funcs 3 fs f (λ q. omega (arith, s.0, q)) h.funcs;
-  tables = list_kept SpellsTables m.tables 4 fs f (λ q. omega (arith, s.0, q)) h.tables;
-  mems = list_kept SpellsMems m.mems 5 fs f (λ q. omega (arith, s.0, q)) h.mems;
-  globals = list_new SpellsGlobals xs 6 fs f (omega arith) s.0 new s.1;
-  exports = list_kept SpellsExports m.exports 7 fs f (λ q. omega (arith, s.0, q)) h.exports;
-  start = start_kept m.start fs f (λ q. omega (arith, s.0, q)) h.start;
-  elems = list_kept SpellsElems m.elems 9 fs f (λ q. omega (arith, s.0, q)) h.elems;
-  bodies = list_kept SpellsBodies m.bodies 10 fs f (λ q. omega (arith, s.0, q)) h.bodies;
-  segments = list_kept SpellsSegments m.segments 11 fs f (λ q. omega (arith, s.0, q)) h.segments;
-  names = names_skip fs f m.names (λ q. omega (arith, s.0, q)) h.names;
-}
-parts_more fs f m (exports xs) new s h = record {
-  types = list_kept SpellsTypes m.types 1 fs f (λ q. omega (arith, s.0, q)) h.types;
-  imports = list_kept SpellsImports m.imports 2 fs f (λ q. omega (arith, s.0, q)) h.imports;
-  funcs = list_kept SpellsFuncs m.funcs 3 fs f (λ q. omega (arith, s.0, q)) h.funcs;
-  tables = list_kept SpellsTables m.tables 4 fs f (λ q. omega (arith, s.0, q)) h.tables;
-  mems = list_kept SpellsMems m.mems 5 fs f (λ q. omega (arith, s.0, q)) h.mems;
-  globals = list_kept SpellsGlobals m.globals 6 fs f (λ q. omega (arith, s.0, q)) h.globals;
-  exports = list_new SpellsExports xs 7 fs f (omega arith) s.0 new s.1;
-  start = start_kept m.start fs f (λ q. omega (arith, s.0, q)) h.start;
-  elems = list_kept SpellsElems m.elems 9 fs f (λ q. omega (arith, s.0, q)) h.elems;
-  bodies = list_kept SpellsBodies m.bodies 10 fs f (λ q. omega (arith, s.0, q)) h.bodies;
-  segments = list_kept SpellsSegments m.segments 11 fs f (λ q. omega (arith, s.0, q)) h.segments;
-  names = names_skip fs f m.names (λ q. omega (arith, s.0, q)) h.names;
-}
-parts_more fs f m (start func) new s h = record {
-  types = list_kept SpellsTypes m.types 1 fs f (λ q. omega (arith, s.0, q)) h.types;
-  imports = list_kept SpellsImports m.imports 2 fs f (λ q. omega (arith, s.0, q)) h.imports;
-  funcs = list_kept SpellsFuncs m.funcs 3 fs f (λ q. omega (arith, s.0, q)) h.funcs;
-  tables = list_kept SpellsTables m.tables 4 fs f (λ q. omega (arith, s.0, q)) h.tables;
-  mems = list_kept SpellsMems m.mems 5 fs f (λ q. omega (arith, s.0, q)) h.mems;
-  globals = list_kept SpellsGlobals m.globals 6 fs f (λ q. omega (arith, s.0, q)) h.globals;
-  exports = list_kept SpellsExports m.exports 7 fs f (λ q. omega (arith, s.0, q)) h.exports;
-  start = start_new func fs f s.0 new s.1;
-  elems = list_kept SpellsElems m.elems 9 fs f (λ q. omega (arith, s.0, q)) h.elems;
-  bodies = list_kept SpellsBodies m.bodies 10 fs f (λ q. omega (arith, s.0, q)) h.bodies;
-  segments = list_kept SpellsSegments m.segments 11 fs f (λ q. omega (arith, s.0, q)) h.segments;
-  names = names_skip fs f m.names (λ q. omega (arith, s.0, q)) h.names;
-}
-parts_more fs f m (elems xs) new s h = record {
-  types = list_kept SpellsTypes m.types 1 fs f (λ q. omega (arith, s.0, q)) h.types;
-  imports = list_kept SpellsImports m.imports 2 fs f (λ q. omega (arith, s.0, q)) h.imports;
-  funcs = list_kept SpellsFuncs m.funcs 3 fs f (λ q. omega (arith, s.0, q)) h.funcs;
-  tables = list_kept SpellsTables m.tables 4 fs f (λ q. omega (arith, s.0, q)) h.tables;
-  mems = list_kept SpellsMems m.mems 5 fs f (λ q. omega (arith, s.0, q)) h.mems;
-  globals = list_kept SpellsGlobals m.globals 6 fs f (λ q. omega (arith, s.0, q)) h.globals;
-  exports = list_kept SpellsExports m.exports 7 fs f (λ q. omega (arith, s.0, q)) h.exports;
-  start = start_kept m.start fs f (λ q. omega (arith, s.0, q)) h.start;
-  elems = list_new SpellsElems xs 9 fs f (omega arith) s.0 new s.1;
-  bodies = list_kept SpellsBodies m.bodies 10 fs f (λ q. omega (arith, s.0, q)) h.bodies;
-  segments = list_kept SpellsSegments m.segments 11 fs f (λ q. omega (arith, s.0, q)) h.segments;
-  names = names_skip fs f m.names (λ q. omega (arith, s.0, q)) h.names;
-}
-parts_more fs f m (bodies xs) new s h = record {
-  types = list_kept SpellsTypes m.types 1 fs f (λ q. omega (arith, s.0, q)) h.types;
-  imports = list_kept SpellsImports m.imports 2 fs f (λ q. omega (arith, s.0, q)) h.imports;
-  funcs = list_kept SpellsFuncs m.funcs 3 fs f (λ q. omega (arith, s.0, q)) h.funcs;
-  tables = list_kept SpellsTables m.tables 4 fs f (λ q. omega (arith, s.0, q)) h.tables;
-  mems = list_kept SpellsMems m.mems 5 fs f (λ q. omega (arith, s.0, q)) h.mems;
-  globals = list_kept SpellsGlobals m.globals 6 fs f (λ q. omega (arith, s.0, q)) h.globals;
-  exports = list_kept SpellsExports m.exports 7 fs f (λ q. omega (arith, s.0, q)) h.exports;
-  start = start_kept m.start fs f (λ q. omega (arith, s.0, q)) h.start;
-  elems = list_kept SpellsElems m.elems 9 fs f (λ q. omega (arith, s.0, q)) h.elems;
-  bodies = list_new SpellsBodies xs 10 fs f (omega arith) s.0 new s.1;
-  segments = list_kept SpellsSegments m.segments 11 fs f (λ q. omega (arith, s.0, q)) h.segments;
-  names = names_skip fs f m.names (λ q. omega (arith, s.0, q)) h.names;
-}
-parts_more fs f m (segments xs) new s h = record {
-  types = list_kept SpellsTypes m.types 1 fs f (λ q. omega (arith, s.0, q)) h.types;
-  imports = list_kept SpellsImports m.imports 2 fs f (λ q. omega (arith, s.0, q)) h.imports;
-  funcs = list_kept SpellsFuncs m.funcs 3 fs f (λ q. omega (arith, s.0, q)) h.funcs;
-  tables = list_kept SpellsTables m.tables 4 fs f (λ q. omega (arith, s.0, q)) h.tables;
-  mems = list_kept SpellsMems m.mems 5 fs f (λ q. omega (arith, s.0, q)) h.mems;
-  globals = list_kept SpellsGlobals m.globals 6 fs f (λ q. omega (arith, s.0, q)) h.globals;
-  exports = list_kept SpellsExports m.exports 7 fs f (λ q. omega (arith, s.0, q)) h.exports;
-  start = start_kept m.start fs f (λ q. omega (arith, s.0, q)) h.start;
-  elems = list_kept SpellsElems m.elems 9 fs f (λ q. omega (arith, s.0, q)) h.elems;
-  bodies = list_kept SpellsBodies m.bodies 10 fs f (λ q. omega (arith, s.0, q)) h.bodies;
-  segments = list_new SpellsSegments xs 11 fs f (omega arith) s.0 new s.1;
-  names = names_skip fs f m.names (λ q. omega (arith, s.0, q)) h.names;
+-- what holds of the sections and the module holds with one section more
+abbrev Lasts : (List Section → Module → Type 0) → Type 0
+Lasts P = (fs : List Section) (f : Section) (m : Module) (c : Contents) → IsNew fs f → SpellsSection f c → P fs m → P (fs ++ f ∷ []) (put c m)
+
+types_last : Lasts (λ fs m. ListIs SpellsTypes m.types (contents_of 1 fs))
+types_last fs f m (types xs) new s h = put_now 1 fs f (ListIs SpellsTypes xs) (lit< tt) s.0 new s.1
+types_last fs f m c new s h = kept 1 fs f c (ListIs SpellsTypes m.types) s refl h
+
+imports_last : Lasts (λ fs m. ListIs SpellsImports m.imports (contents_of 2 fs))
+imports_last fs f m (imports xs) new s h = put_now 2 fs f (ListIs SpellsImports xs) (lit< tt) s.0 new s.1
+imports_last fs f m c new s h = kept 2 fs f c (ListIs SpellsImports m.imports) s refl h
+
+funcs_last : Lasts (λ fs m. ListIs SpellsFuncs m.funcs (contents_of 3 fs))
+funcs_last fs f m (funcs xs) new s h = put_now 3 fs f (ListIs SpellsFuncs xs) (lit< tt) s.0 new s.1
+funcs_last fs f m c new s h = kept 3 fs f c (ListIs SpellsFuncs m.funcs) s refl h
+
+tables_last : Lasts (λ fs m. ListIs SpellsTables m.tables (contents_of 4 fs))
+tables_last fs f m (tables xs) new s h = put_now 4 fs f (ListIs SpellsTables xs) (lit< tt) s.0 new s.1
+tables_last fs f m c new s h = kept 4 fs f c (ListIs SpellsTables m.tables) s refl h
+
+mems_last : Lasts (λ fs m. ListIs SpellsMems m.mems (contents_of 5 fs))
+mems_last fs f m (mems xs) new s h = put_now 5 fs f (ListIs SpellsMems xs) (lit< tt) s.0 new s.1
+mems_last fs f m c new s h = kept 5 fs f c (ListIs SpellsMems m.mems) s refl h
+
+globals_last : Lasts (λ fs m. ListIs SpellsGlobals m.globals (contents_of 6 fs))
+globals_last fs f m (globals xs) new s h = put_now 6 fs f (ListIs SpellsGlobals xs) (lit< tt) s.0 new s.1
+globals_last fs f m c new s h = kept 6 fs f c (ListIs SpellsGlobals m.globals) s refl h
+
+exports_last : Lasts (λ fs m. ListIs SpellsExports m.exports (contents_of 7 fs))
+exports_last fs f m (exports xs) new s h = put_now 7 fs f (ListIs SpellsExports xs) (lit< tt) s.0 new s.1
+exports_last fs f m c new s h = kept 7 fs f c (ListIs SpellsExports m.exports) s refl h
+
+start_last : Lasts (λ fs m. OptionIs SpellsU32 m.start (contents_of 8 fs))
+start_last fs f m (start n) new s h = put_now 8 fs f (OptionIs SpellsU32 (Some n)) (lit< tt) s.0 new s.1
+start_last fs f m c new s h = kept 8 fs f c (OptionIs SpellsU32 m.start) s refl h
+
+elems_last : Lasts (λ fs m. ListIs SpellsElems m.elems (contents_of 9 fs))
+elems_last fs f m (elems xs) new s h = put_now 9 fs f (ListIs SpellsElems xs) (lit< tt) s.0 new s.1
+elems_last fs f m c new s h = kept 9 fs f c (ListIs SpellsElems m.elems) s refl h
+
+bodies_last : Lasts (λ fs m. ListIs SpellsBodies m.bodies (contents_of 10 fs))
+bodies_last fs f m (bodies xs) new s h = put_now 10 fs f (ListIs SpellsBodies xs) (lit< tt) s.0 new s.1
+bodies_last fs f m c new s h = kept 10 fs f c (ListIs SpellsBodies m.bodies) s refl h
+
+segments_last : Lasts (λ fs m. ListIs SpellsSegments m.segments (contents_of 11 fs))
+segments_last fs f m (segments xs) new s h = put_now 11 fs f (ListIs SpellsSegments xs) (lit< tt) s.0 new s.1
+segments_last fs f m c new s h = kept 11 fs f c (ListIs SpellsSegments m.segments) s refl h
+
+names_last : Lasts (λ fs m. NamesAre fs m.names)
+names_last fs f m (custom name payload) new s h = names_new fs f m.names (name, payload) (sym s.0) s.1 h
+names_last fs f m c new s h = names_skip fs f m.names (λ q. omega (arith, s.0, q)) h
+
+pub parts_more : Lasts HasParts
+parts_more fs f m c new s h = record {
+  types = types_last fs f m c new s h.types;
+  imports = imports_last fs f m c new s h.imports;
+  funcs = funcs_last fs f m c new s h.funcs;
+  tables = tables_last fs f m c new s h.tables;
+  mems = mems_last fs f m c new s h.mems;
+  globals = globals_last fs f m c new s h.globals;
+  exports = exports_last fs f m c new s h.exports;
+  start = start_last fs f m c new s h.start;
+  elems = elems_last fs f m c new s h.elems;
+  bodies = bodies_last fs f m c new s h.bodies;
+  segments = segments_last fs f m c new s h.segments;
+  names = names_last fs f m c new s h.names;
 }
 
 pub nests_more : (m : Module) (c : Contents) → NestsAtMost most_nesting m → IsShallowContents c → NestsAtMost most_nesting (put c m)
@@ -272,17 +167,10 @@ nests_more m (globals xs) h s = record { globals = s; elems = h.elems; bodies = 
 nests_more m (elems xs) h s = record { globals = h.globals; elems = s; bodies = h.bodies; segments = h.segments }
 nests_more m (bodies xs) h s = record { globals = h.globals; elems = h.elems; bodies = s; segments = h.segments }
 nests_more m (segments xs) h s = record { globals = h.globals; elems = h.elems; bodies = h.bodies; segments = s }
-nests_more m (custom name payload) h s = record { globals = h.globals; elems = h.elems; bodies = h.bodies; segments = h.segments }
-nests_more m (types xs) h s = record { globals = h.globals; elems = h.elems; bodies = h.bodies; segments = h.segments }
-nests_more m (imports xs) h s = record { globals = h.globals; elems = h.elems; bodies = h.bodies; segments = h.segments }
-nests_more m (funcs xs) h s = record { globals = h.globals; elems = h.elems; bodies = h.bodies; segments = h.segments }
-nests_more m (tables xs) h s = record { globals = h.globals; elems = h.elems; bodies = h.bodies; segments = h.segments }
-nests_more m (mems xs) h s = record { globals = h.globals; elems = h.elems; bodies = h.bodies; segments = h.segments }
-nests_more m (exports xs) h s = record { globals = h.globals; elems = h.elems; bodies = h.bodies; segments = h.segments }
-nests_more m (start func) h s = record { globals = h.globals; elems = h.elems; bodies = h.bodies; segments = h.segments }
+nests_more m c h s = record { globals = h.globals; elems = h.elems; bodies = h.bodies; segments = h.segments }
 
-deep_still : (fs : List (ℕ × List ℕ)) (f : ℕ × List ℕ) (id entry : ℕ) → FirstDeep fs id entry → FirstDeep (fs ++ f ∷ []) id entry
-deep_still fs f id entry d = let lt = get-in fs d.k (id, d.text) d.there in record {
+deep_still : (fs : List Section) (f : Section) (id entry : ℕ) → FirstDeep fs id entry → FirstDeep (fs ++ f ∷ []) id entry
+deep_still fs f id entry d = let lt = slice_get_within fs d.k (id, d.text) d.there in record {
   k = d.k;
   text = d.text;
   there = get-front fs (f ∷ []) d.k (id, d.text) d.there;
@@ -292,13 +180,14 @@ deep_still fs f id entry d = let lt = get-in fs d.k (id, d.text) d.there in reco
   before = λ j g below e. d.before j g below (sym (get-within fs (f ∷ []) j (omega arith)) ∙ e);
 }
 
-pub read_more : (fs : List (ℕ × List ℕ)) (id : ℕ) (text : List ℕ) (old new : Module) (deep : Option (ℕ × ℕ)) (entry : Option ℕ) (c : Contents) → IsNew fs (id, text) → SpellsSection (id, text) c → IsPut c entry old new → IsRead fs deep old
+pub read_more : (fs : List Section) (id : ℕ) (text : List ℕ) (old new : Module) (deep : Option (ℕ × ℕ)) (entry : Option ℕ) (c : Contents)
+    → IsNew fs (id, text) → SpellsSection (id, text) c → IsPut c entry old new → IsRead fs deep old
     → IsRead (fs ++ (id, text) ∷ []) (first_deep deep id entry) new
 read_more fs id text old new (Some at) entry c is s p h = deep_still fs (id, text) at.0 at.1 h
 read_more fs id text old new None (Some entry) c is s p h = record {
   k = length fs;
   text = text;
-  there = get-last fs (id, text) (length fs) refl;
+  there = get-next fs (id, text) [] (length fs) refl;
   contents = c;
   spelled = s;
   deep = p;
@@ -306,73 +195,89 @@ read_more fs id text old new None (Some entry) c is s p h = record {
 }
 read_more fs id text old new None None c is s p h =
     subst (λ (m : Module). IsRead (fs ++ (id, text) ∷ []) None m) (sym p.0)
-    (parts_more fs (id, text) old c is s h.0, nests_more old c h.1 p.1, all-snoc IsShallowSection fs (id, text) h.2 (c, s, p.1))
+    (parts_more fs (id, text) old c is s h.0, nests_more old c h.1 p.1, All-push IsShallowSection fs (id, text) h.2 (c, s, p.1))
 
 -- ---- over where the sections stand
 
-map_append : (bytes : List ℕ) (xs ys : List Frame) → map (frame_at bytes) (xs ++ ys) ≡ map (frame_at bytes) xs ++ map (frame_at bytes) ys
-map_append bytes [] ys = refl
-map_append bytes (x ∷ xs) ys = ap (λ (t : List (ℕ × List ℕ)). frame_at bytes x ∷ t) (map_append bytes xs ys)
-
-abbrev pub up_to : List ℕ → List Frame → ℕ → List (ℕ × List ℕ)
+abbrev pub up_to : List ℕ → List Frame → ℕ → List Section
 up_to bytes frames i = map (frame_at bytes) (take i frames)
 
-pub frames_split : (bytes : List ℕ) (frames : List Frame) (i : ℕ) (x : Frame) → i < length frames → x ≡ get_or frames i x → map (frame_at bytes) frames ≡ up_to bytes frames i ++ frame_at bytes x ∷ map (frame_at bytes) (drop (i + 1) frames)
+pub frames_split : (bytes : List ℕ) (frames : List Frame) (i : ℕ) (x : Frame) → i < length frames → x ≡ get_or frames i x
+    → map (frame_at bytes) frames ≡ up_to bytes frames i ++ frame_at bytes x ∷ map (frame_at bytes) (drop (i + 1) frames)
 frames_split bytes frames i x lt is =
     let d : drop i frames ≡ x ∷ drop (i + 1) frames = rw (drop-cons frames i x lt, ← is, add-one) refl in
-    ap (map (frame_at bytes)) (sym (take-append-drop i frames)) ∙ map_append bytes (take i frames) (drop i frames) ∙ ap (λ (r : List Frame). up_to bytes frames i ++ map (frame_at bytes) r) d
+    ap (map (frame_at bytes)) (sym (take-append-drop i frames)) ∙ map-append (frame_at bytes) (take i frames) (drop i frames)
+    ∙ ap (λ (r : List Frame). up_to bytes frames i ++ map (frame_at bytes) r) d
 
-pub frames_next : (bytes : List ℕ) (frames : List Frame) (i : ℕ) (x : Frame) → i < length frames → x ≡ get_or frames i x → up_to bytes frames (i + 1) ≡ up_to bytes frames i ++ frame_at bytes x ∷ []
-frames_next bytes frames i x lt is = ap (map (frame_at bytes)) (take_more frames i x lt) ∙ map_append bytes (take i frames) (get_or frames i x ∷ []) ∙ ap (λ (y : Frame). up_to bytes frames i ++ frame_at bytes y ∷ []) (sym is)
+pub frames_next : (bytes : List ℕ) (frames : List Frame) (i : ℕ) (x : Frame) → i < length frames → x ≡ get_or frames i x
+    → up_to bytes frames (i + 1) ≡ up_to bytes frames i ++ frame_at bytes x ∷ []
+frames_next bytes frames i x lt is = ap (map (frame_at bytes)) (take_more frames i x lt) ∙ map-append (frame_at bytes) (take i frames)
+    (get_or frames i x ∷ []) ∙ ap (λ (y : Frame). up_to bytes frames i ++ frame_at bytes y ∷ []) (sym is)
 
 -- what is known of the sections so far
 pub record SectionsSoFar (bytes : List ℕ) (frames : List Frame) (i : ℕ) (deep : Option (ℕ × ℕ)) (m : Module) : Type 0 where
   pub spelled : All IsSpelled (up_to bytes frames i)
   pub read : IsRead (up_to bytes frames i) deep m
 
-pub sections_go_on : (bytes : List ℕ) (frames : List Frame) (i final : ℕ) (x : Frame) (old new : Module) (deep : Option (ℕ × ℕ)) (entry : Option ℕ) → i < length frames → x ≡ get_or frames i x → InOrder 0 (map (frame_at bytes) frames) final
-    → ReadsSection x.id (slice_range bytes x.start x.end) old new (Ok entry) → SectionsSoFar bytes frames i deep old → SectionsSoFar bytes frames (i + 1) (first_deep deep x.id entry) new
+pub sections_go_on : (bytes : List ℕ) (frames : List Frame) (i final : ℕ) (x : Frame) (old new : Module) (deep : Option (ℕ × ℕ)) (entry : Option ℕ)
+    → i < length frames → x ≡ get_or frames i x → InOrder 0 (map (frame_at bytes) frames) final
+    → ReadsSection x.id (slice_range bytes x.start x.end) old new (Ok entry) → SectionsSoFar bytes frames i deep old → SectionsSoFar bytes frames (i + 1)
+    (first_deep deep x.id entry) new
 sections_go_on bytes frames i final x old new deep entry lt is ordered r h =
-    let fs : List (ℕ × List ℕ) = up_to bytes frames i in
+    let fs : List Section = up_to bytes frames i in
     let e : fs ++ frame_at bytes x ∷ [] ≡ up_to bytes frames (i + 1) = sym (frames_next bytes frames i x lt is) in
-    let fresh = is_new 0 final fs (frame_at bytes x) (map (frame_at bytes) (drop (i + 1) frames)) (subst (λ (gs : List (ℕ × List ℕ)). InOrder 0 gs final) (frames_split bytes frames i x lt is) ordered) in
+    let fresh = is_new 0 final fs (frame_at bytes x) (map (frame_at bytes) (drop (i + 1) frames)) (subst (λ (gs : List Section). InOrder 0 gs final)
+    (frames_split bytes frames i x lt is) ordered) in
     record {
-      spelled = subst (All IsSpelled) e (all-snoc IsSpelled fs (frame_at bytes x) h.spelled (r.0, r.1));
-      read = subst (λ (gs : List (ℕ × List ℕ)). IsRead gs (first_deep deep x.id entry) new) e (read_more fs x.id (slice_range bytes x.start x.end) old new deep entry r.0 fresh r.1 r.2 h.read);
+      spelled = subst (All IsSpelled) e (All-push IsSpelled fs (frame_at bytes x) h.spelled (r.0, r.1));
+      read = subst (λ (gs : List Section). IsRead gs (first_deep deep x.id entry) new) e (read_more fs x.id (slice_range bytes x.start x.end) old new deep
+          entry r.0 fresh r.1 r.2 h.read);
     }
 
-get-next : {A : Type 0} (xs : List A) (v : A) (rest : List A) (n : ℕ) → n ≡ length xs → slice_get (xs ++ v ∷ rest) n ≡ Some v
-get-next [] v rest n e = subst (λ (k : ℕ). slice_get (v ∷ rest) k ≡ Some v) (sym e) refl
-get-next (x ∷ xs) v rest n e = subst (λ (k : ℕ). slice_get (x ∷ xs ++ v ∷ rest) k ≡ Some v) (sym e) (get-next xs v rest (length xs) refl)
-
-pub first_unspelled : (bytes : List ℕ) (frames : List Frame) (i : ℕ) (x : Frame) (deep : Option (ℕ × ℕ)) (m : Module) → i < length frames → x ≡ get_or frames i x → (IsSpelled (frame_at bytes x) → ⊥) → SectionsSoFar bytes frames i deep m
+pub first_unspelled : (bytes : List ℕ) (frames : List Frame) (i : ℕ) (x : Frame) (deep : Option (ℕ × ℕ)) (m : Module) → i < length frames
+    → x ≡ get_or frames i x → (IsSpelled (frame_at bytes x) → ⊥) → SectionsSoFar bytes frames i deep m
     → length (take i frames) ≡ i → FirstUnspelled (map (frame_at bytes) frames) i x.id
 first_unspelled bytes frames i x deep m lt is bad h long =
-    let fs : List (ℕ × List ℕ) = up_to bytes frames i in
-    let rest : List (ℕ × List ℕ) = map (frame_at bytes) (drop (i + 1) frames) in
+    let fs : List Section = up_to bytes frames i in
+    let rest : List Section = map (frame_at bytes) (drop (i + 1) frames) in
     let e : map (frame_at bytes) frames ≡ fs ++ frame_at bytes x ∷ rest = frames_split bytes frames i x lt is in
-    let count : length fs ≡ i = length-map_frame_at bytes (take i frames) ∙ long in
+    let count : length fs ≡ i = length-map (take i frames) (frame_at bytes) ∙ long in
     record {
       text = slice_range bytes x.start x.end;
-      there = subst (λ (gs : List (ℕ × List ℕ)). slice_get gs i ≡ Some (frame_at bytes x)) (sym e) (get-next fs (frame_at bytes x) rest i (sym count));
+      there = subst (λ (gs : List Section). slice_get gs i ≡ Some (frame_at bytes x)) (sym e) (get-next fs (frame_at bytes x) rest i (sym count));
       unspelled = bad;
-      before = λ j f below g. all-get IsSpelled fs j f h.spelled (sym (get-within fs (frame_at bytes x ∷ rest) j (omega arith)) ∙ subst (λ (gs : List (ℕ × List ℕ)). slice_get gs j ≡ Some f) e g);
+      before = λ j f below g. all-get IsSpelled fs j f h.spelled (sym (get-within fs (frame_at bytes x ∷ rest) j (omega arith))
+          ∙ subst (λ (gs : List Section). slice_get gs j ≡ Some f) e g);
     }
 
-pub all_sections : (bytes : List ℕ) (frames : List Frame) (k : ℕ) (deep : Option (ℕ × ℕ)) (m : Module) → k ≡ length frames → SectionsSoFar bytes frames k deep m → All IsSpelled (map (frame_at bytes) frames) × IsRead (map (frame_at bytes) frames) deep m
+pub all_sections : (bytes : List ℕ) (frames : List Frame) (k : ℕ) (deep : Option (ℕ × ℕ)) (m : Module) → k ≡ length frames
+    → SectionsSoFar bytes frames k deep m → All IsSpelled (map (frame_at bytes) frames) × IsRead (map (frame_at bytes) frames) deep m
 all_sections bytes frames k deep m e h =
-    let all : take k frames ≡ frames = ap (λ (n : ℕ). take n frames) e ∙ take-length frames in
-    (subst (λ (xs : List Frame). All IsSpelled (map (frame_at bytes) xs)) all h.spelled, subst (λ (xs : List Frame). IsRead (map (frame_at bytes) xs) deep m) all h.read)
+    let all : take k frames ≡ frames = ap (λ (n : ℕ). take n frames) e ∙ take-length frames in (
+      subst (λ (xs : List Frame). All IsSpelled (map (frame_at bytes) xs)) all h.spelled,
+      subst (λ (xs : List Frame). IsRead (map (frame_at bytes) xs) deep m)
+          all h.read,
+    )
 
-pub refused : (bytes : List ℕ) (frames : List Frame) (i : ℕ) (x : Frame) (deep : Option (ℕ × ℕ)) (old new m : Module) (stop : Stop) (refusal : DecodeEnd) → i < length frames → x ≡ get_or frames i x → SectionsSoFar bytes frames i deep m
-    → ReadsSection x.id (slice_range bytes x.start x.end) old new (Err stop) → Refuses stop i x.id refusal → ReadsSections (map (frame_at bytes) frames) (Err refusal)
+pub refused : (bytes : List ℕ) (frames : List Frame) (i : ℕ) (x : Frame) (deep : Option (ℕ × ℕ)) (old new m : Module) (stop : Stop) (refusal : DecodeEnd)
+    → i < length frames → x ≡ get_or frames i x → SectionsSoFar bytes frames i deep m
+    → ReadsSection x.id (slice_range bytes x.start x.end) old new (Err stop) → Refuses stop i x.id refusal → ReadsSections (map (frame_at bytes) frames)
+    (Err refusal)
 refused bytes frames i x deep old new m no.No refusal lt is h bad e =
-    subst (λ (d : DecodeEnd). ReadsSections (map (frame_at bytes) frames) (Err d)) (sym e) (first_unspelled bytes frames i x deep m lt is bad h (length-take-le i frames (omega arith)))
-refused bytes frames i x deep old new m no.Memory refusal lt is h bad e = subst (λ (d : DecodeEnd). ReadsSections (map (frame_at bytes) frames) (Err d)) (sym e) tt
+    subst (λ (d : DecodeEnd). ReadsSections (map (frame_at bytes) frames) (Err d)) (sym e) (first_unspelled bytes frames i x deep m lt is bad h
+    (length-take-le i frames (omega arith)))
+refused bytes frames i x deep old new m no.Memory refusal lt is h bad e = subst (λ (d : DecodeEnd). ReadsSections (map (frame_at bytes) frames) (Err d))
+    (sym e) tt
 
 -- ---- the whole
 
-pub spells_of : (bytes : List ℕ) (frames : List (ℕ × List ℕ)) (m : Module) → IsFramed bytes frames → HasParts frames m → length m.funcs ≡ length m.bodies → Spells bytes m
+pub nothing_deep : (frames : List Section) (deep : Option (ℕ × ℕ)) (m : Module) → ((at : ℕ × ℕ) → deep ≡ Some at → ⊥) → IsRead frames deep m
+    → IsRead frames None m
+nothing_deep frames None m none h = h
+nothing_deep frames (Some at) m none h = absurd (none at refl)
+
+pub spells_of : (bytes : List ℕ) (frames : List Section) (m : Module) → IsFramed bytes frames → HasParts frames m → length m.funcs ≡ length m.bodies
+    → Spells bytes m
 spells_of bytes frames m f p same =
     let text : drop 8 bytes ≡ f.framed.text = f.framed.here ∙ ap (λ (t : List ℕ). f.framed.text ++ t) (drop_all bytes) ∙ append-nil f.framed.text in
     record {

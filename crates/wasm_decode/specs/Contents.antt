@@ -16,9 +16,9 @@ use Rattle.wasm_types.specs.Sections.{SpellsCustom, SpellsTypes, SpellsImports, 
 use Rattle.wasm_types.specs.Modules.{contents_of, ListIs, OptionIs, NamesAre, named_payload, later_of}
 use Rattle.code_decode.specs.declared.outcome.Stop.{Stop}
 use Rattle.code_decode.specs.declared.outcome.Stop.TheVariants as stop
-use Rattle.wasm_decode.specs.declared.list.Entries.{Entries}
+use Rattle.wasm_decode.specs.Frames.{Section}
 use Rattle.wasm_decode.specs.Depth.{IsShallowGlobal, IsShallowElem, IsShallowBody, IsShallowSegment}
-use Rattle.wasm_decode.specs.Entries.{FirstNot, AreEntries}
+use Rattle.wasm_decode.specs.Entries.{Rule, FirstNot, AreEntries}
 
 -- what a section has, by its kind
 pub data Contents : Type 0 where
@@ -64,10 +64,10 @@ SpellsContents text (bodies xs) = SpellsBodies text xs
 SpellsContents text (segments xs) = SpellsSegments text xs
 
 -- a section of the kind that its id says
-abbrev pub SpellsSection : ℕ × List ℕ → Contents → Type 0
+abbrev pub SpellsSection : Section → Contents → Type 0
 SpellsSection f c = (section_id c ≡ f.0) × SpellsContents f.1 c
 
-abbrev pub IsSpelled : ℕ × List ℕ → Type 0
+abbrev pub IsSpelled : Section → Type 0
 IsSpelled f = (c : Contents) × SpellsSection f c
 
 -- ---- how deep code nests in a section
@@ -87,30 +87,30 @@ DeepAt (bodies xs) entry = FirstNot IsShallowBody xs entry
 DeepAt (segments xs) entry = FirstNot IsShallowSegment xs entry
 DeepAt _ entry = ⊥
 
-abbrev pub IsShallowSection : ℕ × List ℕ → Type 0
+abbrev pub IsShallowSection : Section → Type 0
 IsShallowSection f = (c : Contents) × SpellsSection f c × IsShallowContents c
 
 -- ---- sections in a row
 
 -- section k, which has the id, is the first that isn't spelled
-pub record FirstUnspelled (frames : List (ℕ × List ℕ)) (k id : ℕ) : Type 0 where
+pub record FirstUnspelled (frames : List Section) (k id : ℕ) : Type 0 where
   pub text : List ℕ
   pub there : slice_get frames k ≡ Some (id, text)
   pub unspelled : IsSpelled (id, text) → ⊥
-  pub before : (j : ℕ) (f : ℕ × List ℕ) → j < k → slice_get frames j ≡ Some f → IsSpelled f
+  pub before : (j : ℕ) (f : Section) → j < k → slice_get frames j ≡ Some f → IsSpelled f
 
 -- a section of the id is the first with code that nests too deep, first in the entry
-pub record FirstDeep (frames : List (ℕ × List ℕ)) (id entry : ℕ) : Type 0 where
+pub record FirstDeep (frames : List Section) (id entry : ℕ) : Type 0 where
   pub k : ℕ
   pub text : List ℕ
   pub there : slice_get frames k ≡ Some (id, text)
   pub contents : Contents
   pub spelled : SpellsSection (id, text) contents
   pub deep : DeepAt contents entry
-  pub before : (j : ℕ) (f : ℕ × List ℕ) → j < k → slice_get frames j ≡ Some f → IsShallowSection f
+  pub before : (j : ℕ) (f : Section) → j < k → slice_get frames j ≡ Some f → IsShallowSection f
 
 -- each list of the module is spelled by its section, and is empty where there is none
-pub record HasParts (frames : List (ℕ × List ℕ)) (m : Module) : Type 0 where
+pub record HasParts (frames : List Section) (m : Module) : Type 0 where
   pub types : ListIs SpellsTypes m.types (contents_of 1 frames)
   pub imports : ListIs SpellsImports m.imports (contents_of 2 frames)
   pub funcs : ListIs SpellsFuncs m.funcs (contents_of 3 frames)
@@ -126,36 +126,31 @@ pub record HasParts (frames : List (ℕ × List ℕ)) (m : Module) : Type 0 wher
 
 -- the module with what one more section has
 abbrev pub put : Contents → Module → Module
-put (custom name payload) m = record { types = m.types; imports = m.imports; funcs = m.funcs; tables = m.tables; mems = m.mems; globals = m.globals; exports = m.exports; start = m.start; elems = m.elems; bodies = m.bodies; segments = m.segments; names = later_of (named_payload (name, payload)) m.names }
-put (types xs) m = record { types = xs; imports = m.imports; funcs = m.funcs; tables = m.tables; mems = m.mems; globals = m.globals; exports = m.exports; start = m.start; elems = m.elems; bodies = m.bodies; segments = m.segments; names = m.names }
-put (imports xs) m = record { types = m.types; imports = xs; funcs = m.funcs; tables = m.tables; mems = m.mems; globals = m.globals; exports = m.exports; start = m.start; elems = m.elems; bodies = m.bodies; segments = m.segments; names = m.names }
-put (funcs xs) m = record { types = m.types; imports = m.imports; funcs = xs; tables = m.tables; mems = m.mems; globals = m.globals; exports = m.exports; start = m.start; elems = m.elems; bodies = m.bodies; segments = m.segments; names = m.names }
-put (tables xs) m = record { types = m.types; imports = m.imports; funcs = m.funcs; tables = xs; mems = m.mems; globals = m.globals; exports = m.exports; start = m.start; elems = m.elems; bodies = m.bodies; segments = m.segments; names = m.names }
-put (mems xs) m = record { types = m.types; imports = m.imports; funcs = m.funcs; tables = m.tables; mems = xs; globals = m.globals; exports = m.exports; start = m.start; elems = m.elems; bodies = m.bodies; segments = m.segments; names = m.names }
-put (globals xs) m = record { types = m.types; imports = m.imports; funcs = m.funcs; tables = m.tables; mems = m.mems; globals = xs; exports = m.exports; start = m.start; elems = m.elems; bodies = m.bodies; segments = m.segments; names = m.names }
-put (exports xs) m = record { types = m.types; imports = m.imports; funcs = m.funcs; tables = m.tables; mems = m.mems; globals = m.globals; exports = xs; start = m.start; elems = m.elems; bodies = m.bodies; segments = m.segments; names = m.names }
-put (start func) m = record { types = m.types; imports = m.imports; funcs = m.funcs; tables = m.tables; mems = m.mems; globals = m.globals; exports = m.exports; start = Some func; elems = m.elems; bodies = m.bodies; segments = m.segments; names = m.names }
-put (elems xs) m = record { types = m.types; imports = m.imports; funcs = m.funcs; tables = m.tables; mems = m.mems; globals = m.globals; exports = m.exports; start = m.start; elems = xs; bodies = m.bodies; segments = m.segments; names = m.names }
-put (bodies xs) m = record { types = m.types; imports = m.imports; funcs = m.funcs; tables = m.tables; mems = m.mems; globals = m.globals; exports = m.exports; start = m.start; elems = m.elems; bodies = xs; segments = m.segments; names = m.names }
-put (segments xs) m = record { types = m.types; imports = m.imports; funcs = m.funcs; tables = m.tables; mems = m.mems; globals = m.globals; exports = m.exports; start = m.start; elems = m.elems; bodies = m.bodies; segments = xs; names = m.names }
+put (custom name payload) m = record m { names = later_of (named_payload (name, payload)) m.names }
+put (types xs) m = record m { types = xs }
+put (imports xs) m = record m { imports = xs }
+put (funcs xs) m = record m { funcs = xs }
+put (tables xs) m = record m { tables = xs }
+put (mems xs) m = record m { mems = xs }
+put (globals xs) m = record m { globals = xs }
+put (exports xs) m = record m { exports = xs }
+put (start func) m = record m { start = Some func }
+put (elems xs) m = record m { elems = xs }
+put (bodies xs) m = record m { bodies = xs }
+put (segments xs) m = record m { segments = xs }
 
 -- ---- what readers of contents answer
 
--- what the whole text spells: all entries, or how many there are before the first that nests too deep
-abbrev pub ReadsWhole : {A : Type 0} → (List ℕ → A → Type 0) → (A → Type 0) → List ℕ → Result (Entries A) Stop → Type 0
-ReadsWhole {A} Spelled Shallow text (Ok found) = (xs : List A) × Counted Spelled text xs × AreEntries Shallow found.items found.deep xs
-ReadsWhole {A} Spelled Shallow text (Err stop.No) = (xs : List A) → Counted Spelled text xs → ⊥
-ReadsWhole Spelled Shallow text (Err stop.Memory) = Unit {0}
-
--- the same, where the entries are kept elsewhere
-abbrev pub Keeps : {A : Type 0} → (List ℕ → A → Type 0) → (A → Type 0) → List ℕ → List A → Result (Option ℕ) Stop → Type 0
+-- what is kept of the vector that the whole text spells: all entries, or how many there are before the first that nests too deep
+abbrev pub Keeps : {A : Type 0} → Rule A → (A → Type 0) → List ℕ → List A → Result (Option ℕ) Stop → Type 0
 Keeps {A} Spelled Shallow text kept (Ok deep) = (xs : List A) × Counted Spelled text xs × AreEntries Shallow kept deep xs
 Keeps {A} Spelled Shallow text kept (Err stop.No) = (xs : List A) → Counted Spelled text xs → ⊥
 Keeps Spelled Shallow text kept (Err stop.Memory) = Unit {0}
 
 -- the payload of the last section named `name`, before and after a custom section
 abbrev pub ReadsCustom : List ℕ → Option (List ℕ) → Option (List ℕ) → Result Unit Stop → Type 0
-ReadsCustom text old new (Ok _) = (name : Name) × (payload : List ℕ) × SpellsCustom text (name, payload) × (new ≡ later_of (named_payload (name, payload)) old)
+ReadsCustom text old new (Ok _) = (name : Name) × (payload : List ℕ) × SpellsCustom text (name, payload) × (new ≡ later_of (named_payload (name, payload))
+    old)
 ReadsCustom text old new (Err stop.No) = (name : Name) (payload : List ℕ) → SpellsCustom text (name, payload) → ⊥
 ReadsCustom text old new (Err stop.Memory) = Unit {0}
 

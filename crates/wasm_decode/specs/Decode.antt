@@ -7,11 +7,11 @@ use Rattle.code_decode.specs.declared.outcome.Stop.{Stop}
 use Rattle.code_decode.specs.declared.outcome.Stop.TheVariants as stop
 use Rattle.wasm_decode.specs.declared.refusal.DecodeEnd.{DecodeEnd}
 use Rattle.wasm_decode.specs.declared.refusal.DecodeEnd.TheVariants as end
-use Rattle.wasm_decode.specs.Frames.{IsFramed, UnframedAt}
+use Rattle.wasm_decode.specs.Frames.{Section, IsFramed, UnframedAt}
 use Rattle.wasm_decode.specs.Contents.{IsSpelled, IsShallowSection, FirstUnspelled, FirstDeep, HasParts}
 
 -- what was read of the sections: the first code that nests too deep, or all lists of the module
-abbrev pub IsRead : List (ℕ × List ℕ) → Option (ℕ × ℕ) → Module → Type 0
+abbrev pub IsRead : List Section → Option (ℕ × ℕ) → Module → Type 0
 IsRead frames None m = HasParts frames m × NestsAtMost most_nesting m × All IsShallowSection frames
 IsRead frames (Some at) m = FirstDeep frames at.0 at.1
 
@@ -26,7 +26,7 @@ abbrev pub Refuses : Stop → ℕ → ℕ → DecodeEnd → Type 0
 Refuses stop.No k id refusal = refusal ≡ end.Section k id
 Refuses stop.Memory k id refusal = refusal ≡ end.Memory
 
-abbrev pub ReadsSections : List (ℕ × List ℕ) → Result (Module × Option (ℕ × ℕ)) DecodeEnd → Type 0
+abbrev pub ReadsSections : List Section → Result (Module × Option (ℕ × ℕ)) DecodeEnd → Type 0
 ReadsSections frames (Ok found) = All IsSpelled frames × IsRead frames found.1 found.0
 ReadsSections frames (Err (end.Section k id)) = FirstUnspelled frames k id
 ReadsSections frames (Err end.Memory) = Unit {0}
@@ -34,20 +34,20 @@ ReadsSections frames (Err _) = ⊥
 
 -- section k, of the id, is the first whose contents aren't spelled
 pub record MalformedAt (bytes : List ℕ) (k id : ℕ) : Type 0 where
-  pub frames : List (ℕ × List ℕ)
+  pub frames : List Section
   pub framed : IsFramed bytes frames
   pub first : FirstUnspelled frames k id
 
 -- all sections are spelled, and code nests too deep, first in the entry of the section with the id
 pub record TooDeepAt (bytes : List ℕ) (id entry : ℕ) : Type 0 where
-  pub frames : List (ℕ × List ℕ)
+  pub frames : List Section
   pub framed : IsFramed bytes frames
   pub spelled : All IsSpelled frames
   pub first : FirstDeep frames id entry
 
 -- all sections are spelled and nest within the limit, and the functions' types and bodies differ in number
 pub record DiffersInCounts (bytes : List ℕ) : Type 0 where
-  pub frames : List (ℕ × List ℕ)
+  pub frames : List Section
   pub framed : IsFramed bytes frames
   pub m : Module
   pub parts : HasParts frames m

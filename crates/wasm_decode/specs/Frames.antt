@@ -6,12 +6,16 @@ use Rattle.wasm_decode.specs.declared.frames.Frame.{Frame}
 use Rattle.wasm_decode.specs.declared.refusal.DecodeEnd.{DecodeEnd}
 use Rattle.wasm_decode.specs.declared.refusal.DecodeEnd.TheVariants as end
 
+-- a section as it stands: its id and its contents
+abbrev pub Section : Type 0
+Section = ℕ × List ℕ
+
 -- a section that may stand where the greatest id before it is known
-abbrev pub NextFrame : ℕ → List ℕ → ℕ × List ℕ → Type 0
+abbrev pub NextFrame : ℕ → List ℕ → Section → Type 0
 NextFrame last text f = SpellsFrame text f × MayFollow last f.0
 
 -- the bytes are the header and these sections
-pub record IsFramed (bytes : List ℕ) (frames : List (ℕ × List ℕ)) : Type 0 where
+pub record IsFramed (bytes : List ℕ) (frames : List Section) : Type 0 where
   pub begun : take 8 bytes ≡ header
   pub final : ℕ
   pub framed : Stands (Sections final) bytes 8 (length bytes) frames
@@ -19,7 +23,7 @@ pub record IsFramed (bytes : List ℕ) (frames : List (ℕ × List ℕ)) : Type 
 -- So many sections stand from the header on, and behind them, before the end of the bytes, none that may follow.
 pub record UnframedAt (bytes : List ℕ) (k : ℕ) : Type 0 where
   pub begun : take 8 bytes ≡ header
-  pub frames : List (ℕ × List ℕ)
+  pub frames : List Section
   pub count : length frames ≡ k
   pub place : ℕ
   pub final : ℕ
@@ -28,7 +32,7 @@ pub record UnframedAt (bytes : List ℕ) (k : ℕ) : Type 0 where
   pub none : NoneStands (NextFrame final) bytes place
 
 -- a section, by where its contents stand
-abbrev pub frame_at : List ℕ → Frame → ℕ × List ℕ
+abbrev pub frame_at : List ℕ → Frame → Section
 frame_at bytes f = (f.id, slice_range bytes f.start f.end)
 
 -- the contents stand within the bytes

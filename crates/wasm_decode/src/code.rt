@@ -1,26 +1,25 @@
 //! Code, and what stands with it (sections 5.5.9 and 5.5.12 to 5.5.14).
 
-ghost use Rattle.std.specs.Prelude.{◌<◌, ◌^◌, Decides};
-ghost use Rattle.wasm_types.specs.Standing.{Reads};
+ghost use Rattle.std.specs.Prelude.{◌≡◌, refl, ◌<◌, ◌^◌, Decides};
 ghost use Rattle.wasm_types.specs.Grammar.{SpellsInstrs};
+ghost use Rattle.wasm_types.specs.Parts.{Counted};
 ghost use Rattle.wasm_types.specs.Sections.{SpellsGlobal, SpellsElem, SpellsRun, SpellsBody, SpellsSegment, local_count};
+ghost use Rattle.wasm_types.proofs.Once.{once_counted};
 ghost use Rattle.wasm_types.proofs.SectionLemmas.{once_instrs, once_global, once_elem, once_run, once_body, once_segment, once_with};
 ghost use Rattle.wasm_decode.specs.Depth.{IsShallow, IsShallowGlobal, IsShallowElem, IsShallowBody, IsShallowSegment};
-ghost use Rattle.wasm_decode.specs.Entries.{SpellsLocals};
-ghost use Rattle.wasm_types.specs.Parts.{Counted};
-ghost use Rattle.wasm_types.proofs.Once.{once_counted};
+ghost use Rattle.wasm_decode.specs.Entries.{Any, SpellsLocals};
+ghost use Rattle.wasm_decode.specs.Shapes.{made_of_parts, locals_makes, body_makes};
 
-use crate::list::{Bytes, Numbers, Vector};
-use crate::production::Production;
-use crate::types::{GlobalTypes, ValTypes};
+use crate::list::{Bytes, Vector};
+use crate::production::{Made, Of, Production};
 use code_decode::{CodeRefusal, Stop, read_expr};
 use sqlite_items::Items;
 use std::alloc::Global;
-use wasm_types::{Body, DataSegment, Elem, GlobalDef, Instr, LocalRun};
+use wasm_types::{Body, DataSegment, Elem, GlobalDef, GlobalType, Instr, LocalRun, ValType};
 
-pub(crate) struct Exprs;
+pub(crate) struct Expr;
 
-impl Production for Exprs {
+impl Production for Expr {
     type Item = Items<Instr>;
 
     ghost spelled = { SpellsInstrs };
@@ -42,92 +41,65 @@ impl Production for Exprs {
     }
 }
 
-pub(crate) struct Globals;
-
-impl Production for Globals {
-    type Item = GlobalDef;
+impl Made for GlobalDef {
+    type Parts = (GlobalType, Expr);
 
     ghost spelled = { SpellsGlobal };
 
     ghost shallow = { IsShallowGlobal };
 
+    ghost made_of = { λ v g. v ≡ (g.kind, g.init) };
+
+    fn make(parts: (GlobalType, Items<Instr>)) -> Option<GlobalDef> {
+        let (kind, init) = parts;
+        Some(GlobalDef { kind, init })
+    }
+
     ghost once = { once_global };
 
-    fn read(alloc: Global, bytes: &[u8], at: usize) -> Result<(Option<GlobalDef>, usize), Stop> {
-        match <(GlobalTypes, Exprs)>::read(alloc, bytes, at) {
-            Ok((found, end)) => match found {
-                Some(parts) => Ok((
-                    Some(GlobalDef {
-                        kind: parts.0,
-                        init: parts.1,
-                    }),
-                    end,
-                )),
-                None => Ok((None, end)),
-            },
-            Err(stop) => Err(stop),
-        }
-    }
+    ghost makes = { made_of_parts _ _ _ _ (λ v. (record { kind = v.0; init = v.1 }, refl)) (λ _ s. s.1) (λ _ t. (tt, t)) };
 }
 
-pub(crate) struct Elems;
-
-impl Production for Elems {
-    type Item = Elem;
+impl Made for Elem {
+    type Parts = (u32, (Expr, Vector<u32>));
 
     ghost spelled = { SpellsElem };
 
     ghost shallow = { IsShallowElem };
 
+    ghost made_of = { λ v e. v ≡ (e.table, (e.offset, e.funcs)) };
+
+    fn make(parts: (u32, (Items<Instr>, Items<u32>))) -> Option<Elem> {
+        let (table, (offset, funcs)) = parts;
+        Some(Elem {
+            table,
+            offset,
+            funcs,
+        })
+    }
+
     ghost once = { once_elem };
 
-    fn read(alloc: Global, bytes: &[u8], at: usize) -> Result<(Option<Elem>, usize), Stop> {
-        match <(Numbers, (Exprs, Vector<Numbers>))>::read(alloc, bytes, at) {
-            Ok((found, end)) => match found {
-                Some(parts) => {
-                    let rest = parts.1;
-                    Ok((
-                        Some(Elem {
-                            table: parts.0,
-                            offset: rest.0,
-                            funcs: rest.1,
-                        }),
-                        end,
-                    ))
-                }
-                None => Ok((None, end)),
-            },
-            Err(stop) => Err(stop),
-        }
-    }
+    ghost makes = { made_of_parts _ _ _ _ (λ v. (record { table = v.0; offset = v.1.0; funcs = v.1.1 }, refl)) (λ _ s. s.1.0) (λ _ t. (tt, (t, λ _ _ _. tt))) };
 }
 
-pub(crate) struct Runs;
-
-impl Production for Runs {
-    type Item = LocalRun;
+impl Made for LocalRun {
+    type Parts = (u32, ValType);
 
     ghost spelled = { SpellsRun };
 
-    ghost shallow = { λ _. Unit {0} };
+    ghost shallow = { Any };
+
+    ghost made_of = { λ v r. v ≡ (r.count, r.kind) };
+
+    fn make(parts: (u32, ValType)) -> Option<LocalRun> {
+        let (count, kind) = parts;
+        Some(LocalRun { count, kind })
+    }
 
     ghost once = { once_run };
 
-    fn read(alloc: Global, bytes: &[u8], at: usize) -> Result<(Option<LocalRun>, usize), Stop> {
-        match <(Numbers, ValTypes)>::read(alloc, bytes, at) {
-            Ok((found, end)) => match found {
-                Some(parts) => Ok((
-                    Some(LocalRun {
-                        count: parts.0,
-                        kind: parts.1,
-                    }),
-                    end,
-                )),
-                None => Ok((None, end)),
-            },
-            Err(stop) => Err(stop),
-        }
-    }
+    ghost makes = { made_of_parts _ _ _ _ (λ v. (record { count = v.0; kind = v.1 }, refl)) (λ _ _. tt) (λ _ _. (tt, tt)) };
 }
 
 /// Whether the counts of the runs add up to less than 2^32.
@@ -144,93 +116,66 @@ fn is_countable(runs: &[LocalRun]) -> bool
     true
 }
 
-pub(crate) struct Locals;
-
-impl Production for Locals {
-    type Item = Items<LocalRun>;
+/// The locals of a function.
+impl Made for Items<LocalRun> {
+    type Parts = Vector<Of<LocalRun>>;
 
     ghost spelled = { SpellsLocals };
 
-    ghost shallow = { λ _. Unit {0} };
+    ghost shallow = { Any };
+
+    ghost made_of = { λ v runs. (v ≡ runs) × (local_count runs < 2 ^ 32) };
+
+    fn make(runs: Items<LocalRun>) -> Option<Items<LocalRun>> {
+        if !is_countable(runs.as_slice()) {
+            return None;
+        }
+        Some(runs)
+    }
 
     ghost once = { once_with (Counted SpellsRun) (λ runs. local_count runs < 2 ^ 32) (once_counted SpellsRun once_run) };
 
-    fn read(
-        alloc: Global,
-        bytes: &[u8],
-        at: usize,
-    ) -> Result<(Option<Items<LocalRun>>, usize), Stop> {
-        match <Vector<Runs>>::read(alloc, bytes, at) {
-            Ok((found, end)) => match found {
-                Some(runs) => {
-                    if !is_countable(runs.as_slice()) {
-                        return Err(Stop::No);
-                    }
-                    Ok((Some(runs), end))
-                }
-                None => Ok((None, end)),
-            },
-            Err(stop) => Err(stop),
-        }
-    }
+    ghost makes = { locals_makes };
 }
 
-pub(crate) struct Bodies;
-
-impl Production for Bodies {
-    type Item = Body;
+impl Made for Body {
+    type Parts = (Of<Items<LocalRun>>, Expr);
 
     ghost spelled = { SpellsBody };
 
     ghost shallow = { IsShallowBody };
 
+    ghost made_of = { λ v b. v ≡ (b.locals, b.code) };
+
+    fn make(parts: (Items<LocalRun>, Items<Instr>)) -> Option<Body> {
+        let (locals, code) = parts;
+        Some(Body { locals, code })
+    }
+
     ghost once = { once_body };
 
-    fn read(alloc: Global, bytes: &[u8], at: usize) -> Result<(Option<Body>, usize), Stop> {
-        match <(Locals, Exprs)>::read(alloc, bytes, at) {
-            Ok((found, end)) => match found {
-                Some(parts) => Ok((
-                    Some(Body {
-                        locals: parts.0,
-                        code: parts.1,
-                    }),
-                    end,
-                )),
-                None => Ok((None, end)),
-            },
-            Err(stop) => Err(stop),
-        }
-    }
+    ghost makes = { body_makes };
 }
 
-pub(crate) struct Segments;
-
-impl Production for Segments {
-    type Item = DataSegment;
+impl Made for DataSegment {
+    type Parts = (u32, (Expr, Bytes));
 
     ghost spelled = { SpellsSegment };
 
     ghost shallow = { IsShallowSegment };
 
+    ghost made_of = { λ v d. v ≡ (d.memory, (d.offset, d.bytes)) };
+
+    fn make(parts: (u32, (Items<Instr>, Items<u8>))) -> Option<DataSegment> {
+        let (memory, (offset, bytes)) = parts;
+        Some(DataSegment {
+            memory,
+            offset,
+            bytes,
+        })
+    }
+
     ghost once = { once_segment };
 
-    fn read(alloc: Global, bytes: &[u8], at: usize) -> Result<(Option<DataSegment>, usize), Stop> {
-        match <(Numbers, (Exprs, Bytes))>::read(alloc, bytes, at) {
-            Ok((found, end)) => match found {
-                Some(parts) => {
-                    let rest = parts.1;
-                    Ok((
-                        Some(DataSegment {
-                            memory: parts.0,
-                            offset: rest.0,
-                            bytes: rest.1,
-                        }),
-                        end,
-                    ))
-                }
-                None => Ok((None, end)),
-            },
-            Err(stop) => Err(stop),
-        }
-    }
+    ghost makes = { made_of_parts _ _ _ _ (λ v. (record { memory = v.0; offset = v.1.0; bytes = v.1.1 }, refl)) (λ _ s. s.1.0) (λ _ t. (tt, (t, tt))) };
 }

@@ -2,33 +2,17 @@
 
 ghost use Rattle.std.specs.Prelude.{◌≡◌, ◌≤◌, MatchOption, codes, bytes_eq, ℕ};
 ghost use Rattle.wasm_types.specs.Numbers.{SpellsU32};
-ghost use Rattle.wasm_decode.specs.Contents.{ReadsWhole, Keeps, ReadsCustom, ReadsSection};
+ghost use Rattle.wasm_decode.specs.Contents.{Keeps, ReadsCustom, ReadsSection};
 
-use crate::code::{Bodies, Elems, Globals, Segments};
-use crate::list::{Entries, Framed, Numbers, read_entries};
-use crate::production::Production;
-use crate::sections::{Exports, Imports, read_name};
-use crate::types::{FuncTypes, MemoryTypes, TableTypes};
+use crate::list::{Framed, read_entries};
+use crate::production::{Of, Production};
+use crate::sections::read_name;
+use crate::types::TableType;
 use code_decode::Stop;
 use leb_codec::read_u32;
 use sqlite_items::Items;
 use std::alloc::Global;
-use wasm_types::Module;
-
-/// The vector that the whole text spells.
-fn read_whole<E: Production>(alloc: Global, text: &[u8]) -> Result<Entries<E::Item>, Stop>
-    ensures { ReadsWhole E.spelled E.shallow text.now result }
-{
-    match read_entries::<E>(alloc, text, 0) {
-        Ok((entries, end)) => {
-            if end < text.len() {
-                return Err(Stop::No);
-            }
-            Ok(entries)
-        }
-        Err(stop) => Err(stop),
-    }
-}
+use wasm_types::{Body, DataSegment, Elem, Export, FuncType, GlobalDef, Import, Limits, Module};
 
 /// Keeps the entries of the vector that the whole text spells; the number of the first in which code nests too deep.
 fn keep<E: Production>(
@@ -38,13 +22,12 @@ fn keep<E: Production>(
 ) -> Result<Option<u32>, Stop>
     ensures { Keeps E.spelled E.shallow text.now list.new result }
 {
-    match read_whole::<E>(alloc, text) {
-        Ok(entries) => {
-            *list = entries.items;
-            Ok(entries.deep)
-        }
-        Err(stop) => Err(stop),
+    let (entries, end) = read_entries::<E>(alloc, text, 0)?;
+    if end < text.len() {
+        return Err(Stop::No);
     }
+    *list = entries.items;
+    Ok(entries.deep)
 }
 
 fn is_names(name: &[u8]) -> bool
@@ -57,30 +40,24 @@ fn is_names(name: &[u8]) -> bool
 fn read_custom(alloc: Global, text: &[u8], names: &mut Option<Items<u8>>) -> Result<(), Stop>
     ensures { ReadsCustom text.now names.old names.new result }
 {
-    match read_name(text, 0) {
-        Some(range) => {
-            if is_names(&text[range.0..range.1]) {
-                *names = Some(Items::from_slice(alloc, &text[range.1..])?);
-            }
-            Ok(())
-        }
-        None => Err(Stop::No),
+    let Some((start, end)) = read_name(text, 0) else {
+        return Err(Stop::No);
+    };
+    if is_names(&text[start..end]) {
+        *names = Some(Items::from_slice(alloc, &text[end..])?);
     }
+    Ok(())
 }
 
 /// The number that the whole text spells.
 fn read_start(text: &[u8]) -> Option<u32>
     ensures { MatchOption result ((n : ℕ) → SpellsU32 text.now n → ⊥) (λ n. SpellsU32 text.now n) }
 {
-    match read_u32(text, 0) {
-        Some((func, after)) => {
-            if after < text.len() {
-                return None;
-            }
-            Some(func)
-        }
-        None => None,
+    let (func, after) = read_u32(text, 0)?;
+    if after < text.len() {
+        return None;
     }
+    Some(func)
 }
 
 /// Puts what the section has into the module; the number of its first entry in which code nests too deep.
@@ -88,32 +65,32 @@ pub(crate) fn read_section(
     alloc: Global,
     text: &[u8],
     id: u8,
-    module: &mut Module,
+    into: &mut Module,
 ) -> Result<Option<u32>, Stop>
     requires { id ≤ 11 }
-    ensures { ReadsSection id text.now module.old module.new result }
+    ensures { ReadsSection id text.now into.old into.new result }
 {
     match id {
-        0 => match read_custom(alloc, text, &mut module.names) {
-            Ok(()) => Ok(None),
-            Err(stop) => Err(stop),
-        },
-        1 => keep::<FuncTypes>(alloc, text, &mut module.types),
-        2 => keep::<Imports>(alloc, text, &mut module.imports),
-        3 => keep::<Numbers>(alloc, text, &mut module.funcs),
-        4 => keep::<TableTypes>(alloc, text, &mut module.tables),
-        5 => keep::<MemoryTypes>(alloc, text, &mut module.mems),
-        6 => keep::<Globals>(alloc, text, &mut module.globals),
-        7 => keep::<Exports>(alloc, text, &mut module.exports),
-        8 => match read_start(text) {
-            Some(func) => {
-                module.start = Some(func);
-                Ok(None)
-            }
-            None => Err(Stop::No),
-        },
-        9 => keep::<Elems>(alloc, text, &mut module.elems),
-        10 => keep::<Framed<Bodies>>(alloc, text, &mut module.bodies),
-        _ => keep::<Segments>(alloc, text, &mut module.segments),
+        0 => {
+            read_custom(alloc, text, &mut into.names)?;
+            Ok(None)
+        }
+        1 => keep::<Of<FuncType>>(alloc, text, &mut into.types),
+        2 => keep::<Of<Import>>(alloc, text, &mut into.imports),
+        3 => keep::<u32>(alloc, text, &mut into.funcs),
+        4 => keep::<TableType>(alloc, text, &mut into.tables),
+        5 => keep::<Limits>(alloc, text, &mut into.mems),
+        6 => keep::<Of<GlobalDef>>(alloc, text, &mut into.globals),
+        7 => keep::<Of<Export>>(alloc, text, &mut into.exports),
+        8 => {
+            let Some(func) = read_start(text) else {
+                return Err(Stop::No);
+            };
+            into.start = Some(func);
+            Ok(None)
+        }
+        9 => keep::<Of<Elem>>(alloc, text, &mut into.elems),
+        10 => keep::<Framed<Of<Body>>>(alloc, text, &mut into.bodies),
+        _ => keep::<Of<DataSegment>>(alloc, text, &mut into.segments),
     }
 }

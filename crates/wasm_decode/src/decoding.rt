@@ -39,10 +39,7 @@ fn first_deep(deep: Option<(u8, u32)>, id: u8, entry: Option<u32>) -> Option<(u8
 {
     match deep {
         Some(at) => Some(at),
-        None => match entry {
-            Some(entry) => Some((id, entry)),
-            None => None,
-        },
+        None => Some((id, entry?)),
     }
 }
 
@@ -87,23 +84,13 @@ pub fn decode(alloc: Global, bytes: &[u8]) -> Result<Module, DecodeEnd>
     requires { length bytes.now < 2 ^ 32 }
     ensures { Decodes bytes.now result }
 {
-    let frames = match read_frames(alloc, bytes) {
-        Ok(frames) => frames,
-        Err(end) => return Err(end),
-    };
-    match read_sections(alloc, bytes, frames.as_slice()) {
-        Ok((module, deep)) => match deep {
-            Some(at) => Err(DecodeEnd::TooDeep {
-                id: at.0,
-                entry: at.1,
-            }),
-            None => {
-                if module.funcs.len() != module.bodies.len() {
-                    return Err(DecodeEnd::Counts);
-                }
-                Ok(module)
-            }
-        },
-        Err(end) => Err(end),
+    let frames = read_frames(alloc, bytes)?;
+    let (module, deep) = read_sections(alloc, bytes, frames.as_slice())?;
+    if let Some((id, entry)) = deep {
+        return Err(DecodeEnd::TooDeep { id, entry });
     }
+    if module.funcs.len() != module.bodies.len() {
+        return Err(DecodeEnd::Counts);
+    }
+    Ok(module)
 }

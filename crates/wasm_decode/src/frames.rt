@@ -33,10 +33,8 @@ fn read_frame(bytes: &[u8], at: usize, last: u8) -> Option<Frame>
     if !may_follow(last, id) {
         return None;
     }
-    match read_range(bytes, at + 1) {
-        Some((start, end)) => Some(Frame { id, start, end }),
-        None => None,
-    }
+    let (start, end) = read_range(bytes, at + 1)?;
+    Some(Frame { id, start, end })
 }
 
 const HEADER: [u8; 8] = [0x00, 0x61, 0x73, 0x6D, 0x01, 0x00, 0x00, 0x00];
@@ -62,19 +60,16 @@ pub(crate) fn read_frames(alloc: Global, bytes: &[u8]) -> Result<Items<Frame>, D
     let mut place = 8;
     let mut last = 0u8;
     while place < bytes.len() {
-        match read_frame(bytes, place, last) {
-            None => return Err(DecodeEnd::Frame {
+        let Some(frame) = read_frame(bytes, place, last) else {
+            return Err(DecodeEnd::Frame {
                 k: frames.len() as u32,
-            }),
-            Some(frame) => {
-                match frames.push(frame) {
-                    Ok(()) => {}
-                    Err(_) => return Err(DecodeEnd::Memory),
-                }
-                last = last.max(frame.id);
-                place = frame.end;
-            }
-        }
+            });
+        };
+        let Ok(()) = frames.push(frame) else {
+            return Err(DecodeEnd::Memory);
+        };
+        last = last.max(frame.id);
+        place = frame.end;
     }
     Ok(frames)
 }

@@ -10,8 +10,6 @@ mod list;
 mod production;
 mod refusal;
 mod sections;
-#[cfg(test)]
-mod tests;
 mod types;
 
 pub use decoding::decode;

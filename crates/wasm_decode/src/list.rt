@@ -1,14 +1,14 @@
 //! Vectors (section 5.1.3), and texts of a stated size.
 
-ghost use Rattle.std.specs.Prelude.{◌≡◌, ◌<◌, ◌≤◌, All, IfOk, IfSome, MatchOption, List, ℕ, length, slice_range};
+ghost use Rattle.std.specs.Prelude.{◌≡◌, refl, ◌<◌, ◌≤◌, All, IfOk, IfSome, MatchOption, List, ℕ, length, slice_range};
 ghost use Rattle.wasm_types.specs.Numbers.{SpellsU32};
 ghost use Rattle.wasm_types.specs.Standing.{Stands, NoneStands};
 ghost use Rattle.wasm_types.specs.Parts.{Counted, Sized, Within};
 ghost use Rattle.wasm_types.proofs.Once.{once_counted, once_u32};
-ghost use Rattle.wasm_types.proofs.SectionLemmas.{once_sized, once_within};
-ghost use Rattle.wasm_decode.specs.Entries.{ReadsEntries, AddsEntry, ReadsRange};
+ghost use Rattle.wasm_types.proofs.SectionLemmas.{once_byte, once_sized, once_within};
+ghost use Rattle.wasm_decode.specs.Entries.{Any, IsByte, ReadsEntries, AddsEntry, ReadsRange};
 
-use crate::production::Production;
+use crate::production::{Plain, Production};
 use code_decode::Stop;
 use leb_codec::read_u32;
 use sqlite_items::Items;
@@ -46,22 +46,17 @@ pub(crate) fn read_entries<E: Production>(
 ) -> Result<(Entries<E::Item>, usize), Stop>
     ensures { ReadsEntries E.spelled E.shallow bytes.now at result }
 {
-    let (count, mut place) = match read_u32(bytes, at) {
-        Some(found) => found,
-        None => return Err(Stop::No),
+    let Some((count, mut place)) = read_u32(bytes, at) else {
+        return Err(Stop::No);
     };
     let mut entries = Entries {
         items: Items::new(alloc),
         deep: None,
     };
     for k in 0..count {
-        match E::read(alloc, bytes, place) {
-            Ok((entry, next)) => {
-                entries.add(entry, k)?;
-                place = next;
-            }
-            Err(stop) => return Err(stop),
-        }
+        let (entry, next) = E::read(alloc, bytes, place)?;
+        entries.add(entry, k)?;
+        place = next;
     }
     Ok((entries, place))
 }
@@ -83,12 +78,10 @@ impl<E: Production> Production for Vector<E> {
         bytes: &[u8],
         at: usize,
     ) -> Result<(Option<Items<E::Item>>, usize), Stop> {
-        match read_entries::<E>(alloc, bytes, at) {
-            Ok((entries, end)) => match entries.deep {
-                None => Ok((Some(entries.items), end)),
-                Some(_) => Ok((None, end)),
-            },
-            Err(stop) => Err(stop),
+        let (entries, end) = read_entries::<E>(alloc, bytes, at)?;
+        match entries.deep {
+            None => Ok((Some(entries.items), end)),
+            Some(_) => Ok((None, end)),
         }
     }
 }
@@ -97,15 +90,11 @@ impl<E: Production> Production for Vector<E> {
 pub(crate) fn read_range(bytes: &[u8], at: usize) -> Option<(usize, usize)>
     ensures { ReadsRange bytes.now at result }
 {
-    match read_u32(bytes, at) {
-        None => None,
-        Some((size, start)) => {
-            if size as usize > bytes.len() - start {
-                return None;
-            }
-            Some((start, start + size as usize))
-        }
+    let (size, start) = read_u32(bytes, at)?;
+    if size as usize > bytes.len() - start {
+        return None;
     }
+    Some((start, start + size as usize))
 }
 
 /// A vector of bytes.
@@ -116,15 +105,15 @@ impl Production for Bytes {
 
     ghost spelled = { Sized };
 
-    ghost shallow = { λ _. Unit {0} };
+    ghost shallow = { Any };
 
     ghost once = { once_sized };
 
     fn read(alloc: Global, bytes: &[u8], at: usize) -> Result<(Option<Items<u8>>, usize), Stop> {
-        match read_range(bytes, at) {
-            Some((start, end)) => Ok((Some(Items::from_slice(alloc, &bytes[start..end])?), end)),
-            None => Err(Stop::No),
-        }
+        let Some((start, end)) = read_range(bytes, at) else {
+            return Err(Stop::No);
+        };
+        Ok((Some(Items::from_slice(alloc, &bytes[start..end])?), end))
     }
 }
 
@@ -141,39 +130,45 @@ impl<E: Production> Production for Framed<E> {
     ghost once = { once_within E.spelled E.once };
 
     fn read(alloc: Global, bytes: &[u8], at: usize) -> Result<(Option<E::Item>, usize), Stop> {
-        let (start, end) = match read_range(bytes, at) {
-            Some(range) => range,
-            None => return Err(Stop::No),
+        let Some((start, end)) = read_range(bytes, at) else {
+            return Err(Stop::No);
         };
         let part = &bytes[start..end];
-        match E::read(alloc, part, 0) {
-            Ok((entry, last)) => {
-                if last < part.len() {
-                    return Err(Stop::No);
-                }
-                Ok((entry, end))
-            }
-            Err(stop) => Err(stop),
+        let (entry, last) = E::read(alloc, part, 0)?;
+        if last < part.len() {
+            return Err(Stop::No);
         }
+        Ok((entry, end))
+    }
+}
+
+/// One byte.
+pub(crate) struct Byte;
+
+impl Plain for Byte {
+    type Item = u8;
+
+    ghost spelled = { IsByte };
+
+    ghost once = { once_byte (λ b. b) (λ b. b) (λ b. refl) };
+
+    fn find(bytes: &[u8], at: usize) -> Option<(u8, usize)> {
+        if at >= bytes.len() {
+            return None;
+        }
+        Some((bytes[at], at + 1))
     }
 }
 
 /// An unsigned 32-bit number.
-pub(crate) struct Numbers;
-
-impl Production for Numbers {
+impl Plain for u32 {
     type Item = u32;
 
     ghost spelled = { SpellsU32 };
 
-    ghost shallow = { λ _. Unit {0} };
-
     ghost once = { once_u32 };
 
-    fn read(_alloc: Global, bytes: &[u8], at: usize) -> Result<(Option<u32>, usize), Stop> {
-        match read_u32(bytes, at) {
-            Some((number, end)) => Ok((Some(number), end)),
-            None => Err(Stop::No),
-        }
+    fn find(bytes: &[u8], at: usize) -> Option<(u32, usize)> {
+        read_u32(bytes, at)
     }
 }

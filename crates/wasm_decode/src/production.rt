@@ -1,12 +1,14 @@
-//! Rules of the grammar, and one after another.
+//! Rules of the grammar: of single values, of one after another, and of values that are made of others.
 
-ghost use Rattle.std.specs.Prelude.{◌≡◌, List, ℕ};
+ghost use Rattle.std.specs.Prelude.{◌≡◌, List, MatchOption, ℕ};
 ghost use Rattle.wasm_types.specs.Parts.{Both};
-ghost use Rattle.wasm_types.proofs.Once.{once_both};
-ghost use Rattle.wasm_decode.specs.Entries.{ReadsEntry, IsOnce, both_of};
+ghost use Rattle.wasm_types.specs.Standing.{Reads};
+ghost use Rattle.wasm_types.proofs.Once.{IsOnce, once_both};
+ghost use Rattle.wasm_decode.specs.Entries.{Any, Makes, ReadsEntry, both_of};
 
 use code_decode::Stop;
 use std::alloc::Global;
+use std::marker::PhantomData;
 
 /// A rule of the grammar: which texts spell which values, and how one is read.
 pub(crate) trait Production {
@@ -23,17 +25,41 @@ pub(crate) trait Production {
     ghost once: { IsOnce spelled };
 }
 
+/// A rule of values that have no code and need no memory.
+pub(crate) trait Plain {
+    type Item: Drop;
+
+    ghost spelled: { List ℕ → Self.Item → Type 0 };
+
+    /// The value that stands at `at`, and the place after it. `None` where none stands.
+    fn find(bytes: &[u8], at: usize) -> Option<(Self::Item, usize)>
+        ensures { Reads spelled bytes.now at result };
+
+    ghost once: { IsOnce spelled };
+}
+
+impl<P: Plain> Production for P {
+    type Item = P::Item;
+
+    ghost spelled = { P.spelled };
+
+    ghost shallow = { Any };
+
+    ghost once = { P.once };
+
+    fn read(_alloc: Global, bytes: &[u8], at: usize) -> Result<(Option<P::Item>, usize), Stop> {
+        match P::find(bytes, at) {
+            Some((value, end)) => Ok((Some(value), end)),
+            None => Err(Stop::No),
+        }
+    }
+}
+
 /// Both, if both are there.
 fn both<A: Drop, B: Drop>(first: Option<A>, second: Option<B>) -> Option<(A, B)>
     ensures { result ≡ both_of first second }
 {
-    match first {
-        Some(first) => match second {
-            Some(second) => Some((first, second)),
-            None => None,
-        },
-        None => None,
-    }
+    Some((first?, second?))
 }
 
 impl<A: Production, B: Production> Production for (A, B) {
@@ -50,12 +76,51 @@ impl<A: Production, B: Production> Production for (A, B) {
         bytes: &[u8],
         at: usize,
     ) -> Result<(Option<(A::Item, B::Item)>, usize), Stop> {
-        match A::read(alloc, bytes, at) {
-            Ok((first, middle)) => match B::read(alloc, bytes, middle) {
-                Ok((second, end)) => Ok((both(first, second), end)),
-                Err(stop) => Err(stop),
-            },
-            Err(stop) => Err(stop),
+        let (first, middle) = A::read(alloc, bytes, at)?;
+        let (second, end) = B::read(alloc, bytes, middle)?;
+        Ok((both(first, second), end))
+    }
+}
+
+/// A value that is made of what another rule spells.
+pub(crate) trait Made: Drop {
+    type Parts: Production;
+
+    ghost spelled: { List ℕ → Self → Type 0 };
+
+    ghost shallow: { Self → Type 0 };
+
+    ghost made_of: { Self.Parts.Item → Self → Type 0 };
+
+    /// The value that is made of the parts. `None` where none is.
+    fn make(parts: <Self::Parts as Production>::Item) -> Option<Self>
+        ensures { MatchOption result ((v : Self) → made_of parts v → ⊥) (λ v. made_of parts v) };
+
+    ghost once: { IsOnce spelled };
+
+    ghost makes: { Makes Self.Parts.spelled Self.Parts.shallow spelled shallow made_of };
+}
+
+/// A value of the type.
+pub(crate) struct Of<T>(PhantomData<T>);
+
+impl<T: Made> Production for Of<T> {
+    type Item = T;
+
+    ghost spelled = { T.spelled };
+
+    ghost shallow = { T.shallow };
+
+    ghost once = { T.once };
+
+    fn read(alloc: Global, bytes: &[u8], at: usize) -> Result<(Option<T>, usize), Stop> {
+        let (parts, end) = <T::Parts as Production>::read(alloc, bytes, at)?;
+        let Some(parts) = parts else {
+            return Ok((None, end));
+        };
+        match T::make(parts) {
+            Some(value) => Ok((Some(value), end)),
+            None => Err(Stop::No),
         }
     }
 }

@@ -1,20 +1,18 @@
 //! What stands in the sections without code (sections 5.2.4, 5.5.3, 5.5.5 and 5.5.10).
 
-ghost use Rattle.std.specs.Prelude.{Decides, IsUtf8};
-ghost use Rattle.wasm_types.specs.Standing.{Reads};
+ghost use Rattle.std.specs.Prelude.{◌≡◌, refl, Decides, IsUtf8};
 ghost use Rattle.wasm_types.specs.Sections.{SpellsName, SpellsImportKind, SpellsImport, SpellsExportKind, SpellsExport};
 ghost use Rattle.wasm_types.proofs.SectionLemmas.{once_name, once_import, once_import_kind, once_export_kind, once_export};
-ghost use Rattle.wasm_decode.specs.Entries.{ReadsName};
+ghost use Rattle.wasm_decode.specs.Entries.{Any, ReadsName};
+ghost use Rattle.wasm_decode.specs.Shapes.{made_of_parts, name_makes};
 
-use crate::list::{Numbers, read_range};
-use crate::production::Production;
-use crate::types::{read_global_type, read_limits, read_table_type};
-use code_decode::Stop;
+use crate::list::{Bytes, read_range};
+use crate::production::{Made, Of, Plain};
+use crate::types::TableType;
 use leb_codec::read_u32;
 use simdutf8::basic::from_utf8;
 use sqlite_items::Items;
-use std::alloc::Global;
-use wasm_types::{Export, ExportKind, Import, ImportKind, Name};
+use wasm_types::{Export, ExportKind, GlobalType, Import, ImportKind, Limits, Name};
 
 /// Whether the bytes are UTF-8.
 fn is_text(bytes: &[u8]) -> bool
@@ -27,179 +25,122 @@ fn is_text(bytes: &[u8]) -> bool
 pub(crate) fn read_name(bytes: &[u8], at: usize) -> Option<(usize, usize)>
     ensures { ReadsName bytes.now at result }
 {
-    match read_range(bytes, at) {
-        Some(range) => {
-            if !is_text(&bytes[range.0..range.1]) {
-                return None;
-            }
-            Some(range)
-        }
-        None => None,
-    }
-}
-
-fn read_import_kind(bytes: &[u8], at: usize) -> Option<(ImportKind, usize)>
-    ensures { Reads SpellsImportKind bytes.now at result }
-{
-    if at >= bytes.len() {
+    let (start, end) = read_range(bytes, at)?;
+    if !is_text(&bytes[start..end]) {
         return None;
     }
-    match bytes[at] {
-        0x00 => match read_u32(bytes, at + 1) {
-            Some((kind, end)) => Some((ImportKind::Func(kind), end)),
-            None => None,
-        },
-        0x01 => match read_table_type(bytes, at + 1) {
-            Some((limits, end)) => Some((ImportKind::Table(limits), end)),
-            None => None,
-        },
-        0x02 => match read_limits(bytes, at + 1) {
-            Some((limits, end)) => Some((ImportKind::Memory(limits), end)),
-            None => None,
-        },
-        0x03 => match read_global_type(bytes, at + 1) {
-            Some((kind, end)) => Some((ImportKind::Global(kind), end)),
-            None => None,
-        },
-        _ => None,
-    }
+    Some((start, end))
 }
 
-fn read_export_kind(bytes: &[u8], at: usize) -> Option<(ExportKind, usize)>
-    ensures { Reads SpellsExportKind bytes.now at result }
-{
-    if at >= bytes.len() {
-        return None;
-    }
-    match bytes[at] {
-        0x00 => Some((ExportKind::Func, at + 1)),
-        0x01 => Some((ExportKind::Table, at + 1)),
-        0x02 => Some((ExportKind::Memory, at + 1)),
-        0x03 => Some((ExportKind::Global, at + 1)),
-        _ => None,
-    }
-}
-
-pub(crate) struct Names;
-
-impl Production for Names {
-    type Item = Name;
+impl Made for Name {
+    type Parts = Bytes;
 
     ghost spelled = { SpellsName };
 
-    ghost shallow = { λ _. Unit {0} };
+    ghost shallow = { Any };
+
+    ghost made_of = { λ bytes n. (bytes ≡ n.bytes) × IsUtf8 n.bytes };
+
+    fn make(bytes: Items<u8>) -> Option<Name> {
+        if !is_text(bytes.as_slice()) {
+            return None;
+        }
+        Some(Name { bytes })
+    }
 
     ghost once = { once_name };
 
-    fn read(alloc: Global, bytes: &[u8], at: usize) -> Result<(Option<Name>, usize), Stop> {
-        match read_name(bytes, at) {
-            Some(range) => {
-                let text = Items::from_slice(alloc, &bytes[range.0..range.1])?;
-                Ok((Some(Name { bytes: text }), range.1))
-            }
-            None => Err(Stop::No),
-        }
-    }
+    ghost makes = { name_makes };
 }
 
-pub(crate) struct ImportKinds;
-
-impl Production for ImportKinds {
+impl Plain for ImportKind {
     type Item = ImportKind;
 
     ghost spelled = { SpellsImportKind };
 
-    ghost shallow = { λ _. Unit {0} };
-
     ghost once = { once_import_kind };
 
-    fn read(_alloc: Global, bytes: &[u8], at: usize) -> Result<(Option<ImportKind>, usize), Stop> {
-        match read_import_kind(bytes, at) {
-            Some((kind, end)) => Ok((Some(kind), end)),
-            None => Err(Stop::No),
+    fn find(bytes: &[u8], at: usize) -> Option<(ImportKind, usize)> {
+        if at >= bytes.len() {
+            return None;
+        }
+        match bytes[at] {
+            0x00 => {
+                let (kind, end) = read_u32(bytes, at + 1)?;
+                Some((ImportKind::Func(kind), end))
+            }
+            0x01 => {
+                let (limits, end) = TableType::find(bytes, at + 1)?;
+                Some((ImportKind::Table(limits), end))
+            }
+            0x02 => {
+                let (limits, end) = Limits::find(bytes, at + 1)?;
+                Some((ImportKind::Memory(limits), end))
+            }
+            0x03 => {
+                let (kind, end) = GlobalType::find(bytes, at + 1)?;
+                Some((ImportKind::Global(kind), end))
+            }
+            _ => None,
         }
     }
 }
 
-pub(crate) struct Imports;
-
-impl Production for Imports {
-    type Item = Import;
+impl Made for Import {
+    type Parts = (Of<Name>, (Of<Name>, ImportKind));
 
     ghost spelled = { SpellsImport };
 
-    ghost shallow = { λ _. Unit {0} };
+    ghost shallow = { Any };
+
+    ghost made_of = { λ v i. v ≡ (i.module, (i.name, i.kind)) };
+
+    fn make(parts: (Name, (Name, ImportKind))) -> Option<Import> {
+        let (module, (name, kind)) = parts;
+        Some(Import { module, name, kind })
+    }
 
     ghost once = { once_import };
 
-    fn read(alloc: Global, bytes: &[u8], at: usize) -> Result<(Option<Import>, usize), Stop> {
-        match <(Names, (Names, ImportKinds))>::read(alloc, bytes, at) {
-            Ok((found, end)) => match found {
-                Some(parts) => {
-                    let rest = parts.1;
-                    Ok((
-                        Some(Import {
-                            module: parts.0,
-                            name: rest.0,
-                            kind: rest.1,
-                        }),
-                        end,
-                    ))
-                }
-                None => Ok((None, end)),
-            },
-            Err(stop) => Err(stop),
-        }
-    }
+    ghost makes = { made_of_parts _ _ _ _ (λ v. (record { «module» = v.0; name = v.1.0; kind = v.1.1 }, refl)) (λ _ _. tt) (λ _ _. (tt, (tt, tt))) };
 }
 
-pub(crate) struct ExportKinds;
-
-impl Production for ExportKinds {
+impl Plain for ExportKind {
     type Item = ExportKind;
 
     ghost spelled = { SpellsExportKind };
 
-    ghost shallow = { λ _. Unit {0} };
-
     ghost once = { once_export_kind };
 
-    fn read(_alloc: Global, bytes: &[u8], at: usize) -> Result<(Option<ExportKind>, usize), Stop> {
-        match read_export_kind(bytes, at) {
-            Some((kind, end)) => Ok((Some(kind), end)),
-            None => Err(Stop::No),
+    fn find(bytes: &[u8], at: usize) -> Option<(ExportKind, usize)> {
+        if at >= bytes.len() {
+            return None;
+        }
+        match bytes[at] {
+            0x00 => Some((ExportKind::Func, at + 1)),
+            0x01 => Some((ExportKind::Table, at + 1)),
+            0x02 => Some((ExportKind::Memory, at + 1)),
+            0x03 => Some((ExportKind::Global, at + 1)),
+            _ => None,
         }
     }
 }
 
-pub(crate) struct Exports;
-
-impl Production for Exports {
-    type Item = Export;
+impl Made for Export {
+    type Parts = (Of<Name>, (ExportKind, u32));
 
     ghost spelled = { SpellsExport };
 
-    ghost shallow = { λ _. Unit {0} };
+    ghost shallow = { Any };
+
+    ghost made_of = { λ v e. v ≡ (e.name, (e.kind, e.index)) };
+
+    fn make(parts: (Name, (ExportKind, u32))) -> Option<Export> {
+        let (name, (kind, index)) = parts;
+        Some(Export { name, kind, index })
+    }
 
     ghost once = { once_export };
 
-    fn read(alloc: Global, bytes: &[u8], at: usize) -> Result<(Option<Export>, usize), Stop> {
-        match <(Names, (ExportKinds, Numbers))>::read(alloc, bytes, at) {
-            Ok((found, end)) => match found {
-                Some(parts) => {
-                    let rest = parts.1;
-                    Ok((
-                        Some(Export {
-                            name: parts.0,
-                            kind: rest.0,
-                            index: rest.1,
-                        }),
-                        end,
-                    ))
-                }
-                None => Ok((None, end)),
-            },
-            Err(stop) => Err(stop),
-        }
-    }
+    ghost makes = { made_of_parts _ _ _ _ (λ v. (record { name = v.0; kind = v.1.0; index = v.1.1 }, refl)) (λ _ _. tt) (λ _ _. (tt, (tt, tt))) };
 }

@@ -1,72 +1,85 @@
 //! Types (section 5.3).
 
+ghost use Rattle.std.specs.Prelude.{◌≡◌};
 ghost use Rattle.wasm_types.specs.Standing.{Reads};
 ghost use Rattle.wasm_types.specs.Types.{SpellsValType, SpellsFuncType, SpellsLimits, SpellsTableType, SpellsMutable, SpellsGlobalType};
 ghost use Rattle.wasm_types.proofs.SectionLemmas.{once_type, once_func_type, once_limits, once_table_type, once_global_type};
+ghost use Rattle.wasm_decode.specs.Entries.{Any};
+ghost use Rattle.wasm_decode.specs.Shapes.{func_type_makes};
 
-use crate::list::Vector;
-use crate::production::Production;
-use code_decode::Stop;
+use crate::list::{Byte, Vector};
+use crate::production::{Made, Plain};
 use leb_codec::read_u32;
-use std::alloc::Global;
+use sqlite_items::Items;
 use wasm_types::{FuncType, GlobalType, Limits, ValType};
 
-fn read_val_type(bytes: &[u8], at: usize) -> Option<(ValType, usize)>
-    ensures { Reads SpellsValType bytes.now at result }
-{
-    if at >= bytes.len() {
-        return None;
-    }
-    match bytes[at] {
-        0x7F => Some((ValType::I32, at + 1)),
-        0x7E => Some((ValType::I64, at + 1)),
-        0x7D => Some((ValType::F32, at + 1)),
-        0x7C => Some((ValType::F64, at + 1)),
-        _ => None,
+impl Plain for ValType {
+    type Item = ValType;
+
+    ghost spelled = { SpellsValType };
+
+    ghost once = { once_type };
+
+    fn find(bytes: &[u8], at: usize) -> Option<(ValType, usize)> {
+        if at >= bytes.len() {
+            return None;
+        }
+        match bytes[at] {
+            0x7F => Some((ValType::I32, at + 1)),
+            0x7E => Some((ValType::I64, at + 1)),
+            0x7D => Some((ValType::F32, at + 1)),
+            0x7C => Some((ValType::F64, at + 1)),
+            _ => None,
+        }
     }
 }
 
-pub(crate) fn read_limits(bytes: &[u8], at: usize) -> Option<(Limits, usize)>
-    ensures { Reads SpellsLimits bytes.now at result }
-{
-    if at >= bytes.len() {
-        return None;
-    }
-    match bytes[at] {
-        0x00 => match read_u32(bytes, at + 1) {
-            Some((min, end)) => Some((Limits { min, max: None }, end)),
-            None => None,
-        },
-        0x01 => match read_u32(bytes, at + 1) {
-            Some((min, middle)) => match read_u32(bytes, middle) {
-                Some((max, end)) => Some((
-                    Limits {
-                        min,
-                        max: Some(max),
-                    },
-                    end,
-                )),
-                None => None,
-            },
-            None => None,
-        },
-        _ => None,
+/// As a memory type too.
+impl Plain for Limits {
+    type Item = Limits;
+
+    ghost spelled = { SpellsLimits };
+
+    ghost once = { once_limits };
+
+    fn find(bytes: &[u8], at: usize) -> Option<(Limits, usize)> {
+        if at >= bytes.len() {
+            return None;
+        }
+        match bytes[at] {
+            0x00 => {
+                let (min, end) = read_u32(bytes, at + 1)?;
+                Some((Limits { min, max: None }, end))
+            }
+            0x01 => {
+                let (min, middle) = read_u32(bytes, at + 1)?;
+                let (max, end) = read_u32(bytes, middle)?;
+                let max = Some(max);
+                Some((Limits { min, max }, end))
+            }
+            _ => None,
+        }
     }
 }
 
-pub(crate) fn read_table_type(bytes: &[u8], at: usize) -> Option<(Limits, usize)>
-    ensures { Reads SpellsTableType bytes.now at result }
-{
-    if at >= bytes.len() || bytes[at] != 0x70 {
-        return None;
-    }
-    match read_limits(bytes, at + 1) {
-        Some((limits, end)) => Some((limits, end)),
-        None => None,
+pub(crate) struct TableType;
+
+impl Plain for TableType {
+    type Item = Limits;
+
+    ghost spelled = { SpellsTableType };
+
+    ghost once = { once_table_type };
+
+    fn find(bytes: &[u8], at: usize) -> Option<(Limits, usize)> {
+        if at >= bytes.len() || bytes[at] != 0x70 {
+            return None;
+        }
+        Limits::find(bytes, at + 1)
     }
 }
 
-fn read_mutable(bytes: &[u8], at: usize) -> Option<(bool, usize)>
+fn find_mutable(bytes: &[u8], at: usize) -> Option<(bool, usize)>
     ensures { Reads SpellsMutable bytes.now at result }
 {
     if at >= bytes.len() {
@@ -79,121 +92,38 @@ fn read_mutable(bytes: &[u8], at: usize) -> Option<(bool, usize)>
     }
 }
 
-pub(crate) fn read_global_type(bytes: &[u8], at: usize) -> Option<(GlobalType, usize)>
-    ensures { Reads SpellsGlobalType bytes.now at result }
-{
-    match read_val_type(bytes, at) {
-        Some((kind, middle)) => match read_mutable(bytes, middle) {
-            Some((mutable, end)) => Some((GlobalType { kind, mutable }, end)),
-            None => None,
-        },
-        None => None,
-    }
-}
-
-pub(crate) struct ValTypes;
-
-impl Production for ValTypes {
-    type Item = ValType;
-
-    ghost spelled = { SpellsValType };
-
-    ghost shallow = { λ _. Unit {0} };
-
-    ghost once = { once_type };
-
-    fn read(_alloc: Global, bytes: &[u8], at: usize) -> Result<(Option<ValType>, usize), Stop> {
-        match read_val_type(bytes, at) {
-            Some((kind, end)) => Ok((Some(kind), end)),
-            None => Err(Stop::No),
-        }
-    }
-}
-
-pub(crate) struct MemoryTypes;
-
-impl Production for MemoryTypes {
-    type Item = Limits;
-
-    ghost spelled = { SpellsLimits };
-
-    ghost shallow = { λ _. Unit {0} };
-
-    ghost once = { once_limits };
-
-    fn read(_alloc: Global, bytes: &[u8], at: usize) -> Result<(Option<Limits>, usize), Stop> {
-        match read_limits(bytes, at) {
-            Some((limits, end)) => Ok((Some(limits), end)),
-            None => Err(Stop::No),
-        }
-    }
-}
-
-pub(crate) struct TableTypes;
-
-impl Production for TableTypes {
-    type Item = Limits;
-
-    ghost spelled = { SpellsTableType };
-
-    ghost shallow = { λ _. Unit {0} };
-
-    ghost once = { once_table_type };
-
-    fn read(_alloc: Global, bytes: &[u8], at: usize) -> Result<(Option<Limits>, usize), Stop> {
-        match read_table_type(bytes, at) {
-            Some((limits, end)) => Ok((Some(limits), end)),
-            None => Err(Stop::No),
-        }
-    }
-}
-
-pub(crate) struct GlobalTypes;
-
-impl Production for GlobalTypes {
+impl Plain for GlobalType {
     type Item = GlobalType;
 
     ghost spelled = { SpellsGlobalType };
 
-    ghost shallow = { λ _. Unit {0} };
-
     ghost once = { once_global_type };
 
-    fn read(_alloc: Global, bytes: &[u8], at: usize) -> Result<(Option<GlobalType>, usize), Stop> {
-        match read_global_type(bytes, at) {
-            Some((kind, end)) => Ok((Some(kind), end)),
-            None => Err(Stop::No),
-        }
+    fn find(bytes: &[u8], at: usize) -> Option<(GlobalType, usize)> {
+        let (kind, middle) = ValType::find(bytes, at)?;
+        let (mutable, end) = find_mutable(bytes, middle)?;
+        Some((GlobalType { kind, mutable }, end))
     }
 }
 
-pub(crate) struct FuncTypes;
-
-impl Production for FuncTypes {
-    type Item = FuncType;
+impl Made for FuncType {
+    type Parts = (Byte, (Vector<ValType>, Vector<ValType>));
 
     ghost spelled = { SpellsFuncType };
 
-    ghost shallow = { λ _. Unit {0} };
+    ghost shallow = { Any };
+
+    ghost made_of = { λ v f. (v.0 ≡ 0x60) × (v.1 ≡ (f.params, f.results)) };
+
+    fn make(parts: (u8, (Items<ValType>, Items<ValType>))) -> Option<FuncType> {
+        let (form, (params, results)) = parts;
+        if form != 0x60 {
+            return None;
+        }
+        Some(FuncType { params, results })
+    }
 
     ghost once = { once_func_type };
 
-    fn read(alloc: Global, bytes: &[u8], at: usize) -> Result<(Option<FuncType>, usize), Stop> {
-        if at >= bytes.len() || bytes[at] != 0x60 {
-            return Err(Stop::No);
-        }
-        match <(Vector<ValTypes>, Vector<ValTypes>)>::read(alloc, bytes, at + 1) {
-            Ok((found, end)) => match found {
-                Some(parts) => Ok((
-                    Some(FuncType {
-                        params: parts.0,
-                        results: parts.1,
-                    }),
-                    end,
-                )),
-                None => Ok((None, end)),
-            },
-            Err(stop) => Err(stop),
-        }
-    }
+    ghost makes = { func_type_makes };
 }

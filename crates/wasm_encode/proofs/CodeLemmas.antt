@@ -18,17 +18,6 @@ use Rattle.wasm_types.proofs.CanonLemmas.{else_long}
 
 -- ---- the steps of the writer
 
-pub opcode-block : (k : Option ValType) (xs : List Instr) → opcode (Block k xs) ≡ 2
-opcode-block k xs = search (rules, the_lemmas)
-
-pub opcode-loop : (k : Option ValType) (xs : List Instr) → opcode (Loop k xs) ≡ 3
-opcode-loop k xs = search (rules, the_lemmas)
-
-pub opcode-if : (k : Option ValType) (xs ys : List Instr) → opcode (If k xs ys) ≡ 4
-opcode-if k xs ys = search (rules, the_lemmas)
-
-pub ruleset opcode_steps = (opcode-block, opcode-loop, opcode-if)
-
 pub immediates-block : (k : Option ValType) (xs : List Instr) → immediates (Block k xs) ≡ never
 immediates-block k xs = search (rules, the_lemmas)
 

@@ -5,14 +5,14 @@ ghost use Rattle.wasm_types.specs.declared.module.ValType.{ValType};
 ghost use Rattle.wasm_types.specs.Numbers.{shortest_u32};
 ghost use Rattle.wasm_types.specs.Types.{kind_byte};
 ghost use Rattle.wasm_types.specs.Code.{done, onto, code_of};
-ghost use Rattle.wasm_types.specs.Plain.{immediates};
+ghost use Rattle.wasm_types.specs.Plain.{immediates, memories_of};
 ghost use Rattle.wasm_types.specs.Canon.{else_part, canon_counted, canon_raw_32, canon_immediates, canon_plain, canon_code, canon_instrs};
 ghost use Rattle.wasm_types.specs.WellFormed.{ProperImmediates, ProperCode, ProperInstrs};
 
 use crate::items::write_counted;
-use crate::opcodes::opcode_of;
-use crate::text::{kind_byte_of, write_byte};
+use crate::text::write_byte;
 use leb_codec::{write_i32_bits, write_i64_bits, write_u32};
+use opcode_table::{MEMORY_COPY, MEMORY_FILL, block_byte, opcode_of};
 use wasm_types::{FloatInstr, Instr, MemArg, NoMemory, ValType};
 
 fn write_address(out: &mut Vec<u8>, place: &MemArg) -> Result<(), NoMemory>
@@ -45,6 +45,17 @@ fn write_labels(out: &mut Vec<u8>, labels: &[u32], other: u32) -> Result<(), NoM
 {
     write_counted(out, labels)?;
     write_u32(out, other)
+}
+
+/// The number of an instruction on ranges of memory, and a byte 0 for each memory that it names.
+fn write_bulk(out: &mut Vec<u8>, which: u32) -> Result<(), NoMemory>
+    ensures { OnOk result (out.new.items ≡ out.old.items ++ (shortest_u32 which ++ memories_of which)) }
+{
+    write_u32(out, which)?;
+    if which == MEMORY_COPY {
+        write_byte(out, 0)?;
+    }
+    write_byte(out, 0)
 }
 
 /// What follows the opcode.
@@ -87,6 +98,8 @@ fn write_immediates(out: &mut Vec<u8>, instr: &Instr) -> Result<(), NoMemory>
         Instr::Block(_, _) => Ok(()),
         Instr::Loop(_, _) => Ok(()),
         Instr::If(_, _, _) => Ok(()),
+        Instr::MemoryCopy => write_bulk(out, MEMORY_COPY),
+        Instr::MemoryFill => write_bulk(out, MEMORY_FILL),
     }
 }
 
@@ -113,7 +126,7 @@ fn write_enclosed(
     ensures { OnOk result (out.new.items ≡ out.old.items ++ (opening ∷ kind_byte kind ∷ canon_code (code_of code.now) ++ 0x0B ∷ [])) }
 {
     write_byte(out, opening)?;
-    write_byte(out, kind_byte_of(kind))?;
+    write_byte(out, block_byte(kind))?;
     write_code(out, code)?;
     write_byte(out, 0x0B)
 }
@@ -148,7 +161,7 @@ fn write_if(
     ensures { OnOk result (out.new.items ≡ out.old.items ++ (0x04 ∷ kind_byte kind ∷ canon_code (code_of first.now) ++ (else_part (canon_code (code_of second.now)) ++ 0x0B ∷ []))) }
 {
     write_byte(out, 0x04)?;
-    write_byte(out, kind_byte_of(kind))?;
+    write_byte(out, block_byte(kind))?;
     write_code(out, first)?;
     write_else(out, second)?;
     write_byte(out, 0x0B)

@@ -6,18 +6,16 @@ ghost use Rattle.wasm_types.specs.declared.module.FuncType.{FuncType};
 ghost use Rattle.wasm_types.specs.declared.module.Limits.{Limits};
 ghost use Rattle.wasm_types.specs.declared.module.LocalRun.{LocalRun};
 ghost use Rattle.wasm_types.specs.Numbers.{shortest_u32};
-ghost use Rattle.wasm_types.specs.Sections.{export_byte};
 ghost use Rattle.wasm_types.specs.Canon.{canon_each, canon_counted, canon_type, canon_func_type, canon_import, canon_import_kind, canon_limits, canon_global, canon_export, canon_elem, canon_run, canon_segment};
 ghost use Rattle.wasm_types.specs.WellFormed.{ProperImport, ProperImportKind, ProperGlobal, ProperExport, ProperElem, ProperSegment};
 
 use crate::code::write_instrs;
-use crate::text::{
-    type_byte_of, write_byte, write_global_type, write_limits, write_sized, write_table_type,
-};
+use crate::text::{write_byte, write_global_type, write_limits, write_sized, write_table_type};
 use leb_codec::write_u32;
+use opcode_table::{export_byte, type_byte};
 use wasm_types::{
-    DataSegment, Elem, Export, ExportKind, FuncType, GlobalDef, Import, ImportKind, Limits,
-    LocalRun, NoMemory, ValType,
+    DataSegment, Elem, Export, FuncType, GlobalDef, Import, ImportKind, Limits, LocalRun, NoMemory,
+    ValType,
 };
 
 /// What has one canonical text.
@@ -71,7 +69,7 @@ impl Canonical for ValType {
     ghost proper = { λ kind. Unit {0} };
 
     fn write(&self, out: &mut Vec<u8>) -> Result<(), NoMemory> {
-        write_byte(out, type_byte_of(*self))
+        write_byte(out, type_byte(*self))
     }
 }
 
@@ -82,7 +80,7 @@ impl Canonical for LocalRun {
 
     fn write(&self, out: &mut Vec<u8>) -> Result<(), NoMemory> {
         write_u32(out, self.count)?;
-        write_byte(out, type_byte_of(self.kind))
+        write_byte(out, type_byte(self.kind))
     }
 }
 
@@ -154,17 +152,6 @@ impl Canonical for GlobalDef {
     }
 }
 
-fn export_byte_of(kind: ExportKind) -> u8
-    ensures { result ≡ export_byte kind }
-{
-    match kind {
-        ExportKind::Func => 0x00,
-        ExportKind::Table => 0x01,
-        ExportKind::Memory => 0x02,
-        ExportKind::Global => 0x03,
-    }
-}
-
 impl Canonical for Export {
     ghost text = { canon_export };
 
@@ -172,7 +159,7 @@ impl Canonical for Export {
 
     fn write(&self, out: &mut Vec<u8>) -> Result<(), NoMemory> {
         write_sized(out, self.name.bytes.as_slice())?;
-        write_byte(out, export_byte_of(self.kind))?;
+        write_byte(out, export_byte(self.kind))?;
         write_u32(out, self.index)
     }
 }

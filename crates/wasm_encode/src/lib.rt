@@ -4,10 +4,7 @@
 mod code;
 mod items;
 mod module;
-mod opcodes;
 mod sections;
-#[cfg(test)]
-mod tests;
 mod text;
 
 pub use module::encode;

@@ -1,12 +1,11 @@
 //! Bytes, types and sized bytes at the end of a text (WebAssembly Core Specification 1.0, sections 5.2 and 5.3).
 
 ghost use Rattle.std.specs.Prelude.{◌≡◌, ◌<◌, ◌^◌, ◌++◌, ◌∷◌, [], length, OnOk};
-ghost use Rattle.wasm_types.specs.declared.module.ValType.{ValType};
-ghost use Rattle.wasm_types.specs.Types.{type_byte, kind_byte};
 ghost use Rattle.wasm_types.specs.Canon.{canon_sized, canon_limits, canon_table_type, canon_global_type};
 
 use leb_codec::write_u32;
-use wasm_types::{GlobalType, Limits, NoMemory, ValType};
+use opcode_table::{mutable_byte, type_byte};
+use wasm_types::{GlobalType, Limits, NoMemory};
 
 pub(crate) fn write_byte(out: &mut Vec<u8>, byte: u8) -> Result<(), NoMemory>
     ensures { OnOk result (out.new.items ≡ out.old.items ++ byte ∷ []) }
@@ -25,27 +24,6 @@ pub(crate) fn write_sized(out: &mut Vec<u8>, bytes: &[u8]) -> Result<(), NoMemor
     write_u32(out, bytes.len() as u32)?;
     out.extend_from_slice(bytes)?;
     Ok(())
-}
-
-pub(crate) fn type_byte_of(kind: ValType) -> u8
-    ensures { result ≡ type_byte kind }
-{
-    match kind {
-        ValType::I32 => 0x7F,
-        ValType::I64 => 0x7E,
-        ValType::F32 => 0x7D,
-        ValType::F64 => 0x7C,
-    }
-}
-
-/// The byte of a block type.
-pub(crate) fn kind_byte_of(kind: Option<ValType>) -> u8
-    ensures { result ≡ kind_byte kind }
-{
-    match kind {
-        None => 0x40,
-        Some(kind) => type_byte_of(kind),
-    }
 }
 
 pub(crate) fn write_limits(out: &mut Vec<u8>, limits: &Limits) -> Result<(), NoMemory>
@@ -74,6 +52,6 @@ pub(crate) fn write_table_type(out: &mut Vec<u8>, limits: &Limits) -> Result<(),
 pub(crate) fn write_global_type(out: &mut Vec<u8>, kind: &GlobalType) -> Result<(), NoMemory>
     ensures { OnOk result (out.new.items ≡ out.old.items ++ canon_global_type kind.now) }
 {
-    write_byte(out, type_byte_of(kind.kind))?;
-    write_byte(out, if kind.mutable { 0x01 } else { 0x00 })
+    write_byte(out, type_byte(kind.kind))?;
+    write_byte(out, mutable_byte(kind.mutable))
 }

@@ -85,6 +85,13 @@ shifted_left = refl
 rotated : got (num.Bin W32 bin.Rotl) (1 ∷ 2147483649 ∷ []) ≡ Value_of (I32 3)
 rotated = refl
 
+-- a rotation by 33 is one by 1
+rotated_on : got (num.Bin W32 bin.Rotl) (33 ∷ 2147483649 ∷ []) ≡ Value_of (I32 3)
+rotated_on = refl
+
+rotated_back : got (num.Bin W64 bin.Rotr) (65 ∷ 1 ∷ []) ≡ Value_of (I64 9223372036854775808)
+rotated_back = refl
+
 rotated_right : got (num.Bin W32 bin.Rotr) (1 ∷ 3 ∷ []) ≡ Value_of (I32 2147483649)
 rotated_right = refl
 
@@ -138,7 +145,20 @@ empty : Name
 empty = record { bytes = [] }
 
 abbrev blank : Module
-blank = record { types = []; imports = []; funcs = []; tables = []; mems = []; globals = []; exports = []; start = None; elems = []; bodies = []; segments = []; names = None }
+blank = record {
+  types = [];
+  imports = [];
+  funcs = [];
+  tables = [];
+  mems = [];
+  globals = [];
+  exports = [];
+  start = None;
+  elems = [];
+  bodies = [];
+  segments = [];
+  names = None;
+}
 
 abbrev body : List Instr → Body
 body code = record { locals = []; code = code }
@@ -219,7 +239,9 @@ unfolding onto
 far = refl
 
 -- a number stored at 9, and its third byte loaded as signed
-stored : does (alone nullary (instr.I32Const 8 ∷ instr.I32Const 2155971203 ∷ instr.Store store.I32 (at 1) ∷ instr.I32Const 9 ∷ instr.Load load.I32S8 (at 3) ∷ [])) [] ≡ Results (I32 4294967168 ∷ []) 0
+stored : does
+    (alone nullary (instr.I32Const 8 ∷ instr.I32Const 2155971203 ∷ instr.Store store.I32 (at 1) ∷ instr.I32Const 9 ∷ instr.Load load.I32S8 (at 3) ∷ [])) []
+    ≡ Results (I32 4294967168 ∷ []) 0
 unfolding onto
 stored = refl
 
@@ -241,7 +263,9 @@ three = record { params = type.I32 ∷ type.I32 ∷ type.I32 ∷ []; results = t
 -- 258 stored at 0, a copy by the arguments, and a load where it was copied to
 abbrev copies : Module
 copies =
-    alone three (instr.I32Const 0 ∷ instr.I32Const 258 ∷ instr.Store store.I32 (at 0) ∷ instr.LocalGet 0 ∷ instr.LocalGet 1 ∷ instr.LocalGet 2 ∷ instr.MemoryCopy ∷ instr.LocalGet 0 ∷ instr.Load load.I32 (at 0) ∷ [])
+    alone three
+    (instr.I32Const 0 ∷ instr.I32Const 258 ∷ instr.Store store.I32
+    (at 0) ∷ instr.LocalGet 0 ∷ instr.LocalGet 1 ∷ instr.LocalGet 2 ∷ instr.MemoryCopy ∷ instr.LocalGet 0 ∷ instr.Load load.I32 (at 0) ∷ [])
 
 -- the ranges overlap
 copied : does copies (I32 1 ∷ I32 0 ∷ I32 4 ∷ []) ≡ Results (I32 258 ∷ []) 0
@@ -275,7 +299,9 @@ unfolding onto
 filled_past = refl
 
 -- the value is taken modulo 256
-filled : does (alone nullary (instr.I32Const 0 ∷ instr.I32Const 263 ∷ instr.I32Const 4 ∷ instr.MemoryFill ∷ instr.I32Const 0 ∷ instr.Load load.I32U8 (at 0) ∷ [])) [] ≡ Results (I32 7 ∷ []) 0
+filled : does
+    (alone nullary (instr.I32Const 0 ∷ instr.I32Const 263 ∷ instr.I32Const 4 ∷ instr.MemoryFill ∷ instr.I32Const 0 ∷ instr.Load load.I32U8 (at 0) ∷ [])) []
+    ≡ Results (I32 7 ∷ []) 0
 unfolding onto
 filled = refl
 
@@ -327,7 +353,8 @@ recursive = record blank {
   bodies = body (
       instr.LocalGet 0
       ∷ instr.If' (Some type.I32) (tt ∷ tt ∷ tt ∷ tt ∷ [])
-      (more_of-Instr (instr.LocalGet 0) (more_of-Instr (instr.I32Const 1) (more_of-Instr (instr.Num (num.Bin W32 bin.Sub)) (more_of-Instr (instr.Call 0) end_of-Instr))))
+      (more_of-Instr (instr.LocalGet 0)
+      (more_of-Instr (instr.I32Const 1) (more_of-Instr (instr.Num (num.Bin W32 bin.Sub)) (more_of-Instr (instr.Call 0) end_of-Instr))))
       (tt ∷ []) (more_of-Instr (instr.I32Const 0) end_of-Instr)
       ∷ instr.I32Const 1
       ∷ instr.Num (num.Bin W32 bin.Add)
@@ -356,7 +383,9 @@ abbrev loops : Module
 loops =
     alone single (
     instr.Loop' None (tt ∷ tt ∷ tt ∷ tt ∷ tt ∷ [])
-    (more_of-Instr (instr.LocalGet 0) (more_of-Instr (instr.I32Const 1) (more_of-Instr (instr.Num (num.Bin W32 bin.Sub)) (more_of-Instr (instr.LocalTee 0) (more_of-Instr (instr.BrIf 0) end_of-Instr)))))
+    (more_of-Instr (instr.LocalGet 0)
+    (more_of-Instr (instr.I32Const 1)
+    (more_of-Instr (instr.Num (num.Bin W32 bin.Sub)) (more_of-Instr (instr.LocalTee 0) (more_of-Instr (instr.BrIf 0) end_of-Instr)))))
     ∷ instr.LocalGet 0
     ∷ []
     )
@@ -371,7 +400,12 @@ counted_down = refl
 abbrev asking : Module
 asking = record blank {
   types = nullary ∷ [];
-  imports = record { «module» = empty; name = empty; kind = import.Func 0 } ∷ record { «module» = empty; name = empty; kind = import.Global (record { kind = type.I32; mutable = true }) } ∷ [];
+  imports = record { «module» = empty; name = empty; kind = import.Func 0 } ∷ record {
+    «module» = empty;
+    name = empty;
+    kind = import.Global
+        (record { kind = type.I32; mutable = true });
+  } ∷ [];
   funcs = 0 ∷ [];
   mems = record { min = 1; max = None } ∷ [];
   exports = record { name = empty; kind = export.Memory; index = 0 } ∷ [];

@@ -21,28 +21,69 @@ use Rattle.wasm_types.specs.Numbers.{SpellsU32}
 use Rattle.wasm_types.proofs.NumberLemmas.{one_signed}
 use Rattle.wasm_types.specs.Parts.{Counted}
 use Rattle.wasm_types.proofs.Once.{IsOnce, once_u32, once_then, once_both, once_counted}
-use Rattle.wasm_types.specs.Plain.{SpellsRaw32, SpellsRaw64, Immediates, nothing, number, labels, signature, address, memory, signed_32, signed_64, raw_32, raw_64, bulk, never, memories_of, within, is_number, is_address, float_plain, num_opcode, opcode, float_immediates, immediates, SpellsBulk, SpellsImmediates, SpellsPlain}
+use Rattle.wasm_types.specs.Plain.{SpellsRaw32, SpellsRaw64, Immediates, nothing, number, labels, signature, address, memory, signed_32, signed_64, raw_32, raw_64, bulk, never, memories_of, within, float_plain, num_opcode, opcode, float_immediates, immediates, SpellsBulk, SpellsImmediates, SpellsPlain}
 
 -- ---- from an opcode and what follows it to the instruction
 
+-- what stands beside a number in a table
+abbrev found_row : {A : Type 0} → ℕ → A → List (ℕ × A) → A
+found_row n other [] = other
+found_row n other (r ∷ rs) = if n == r.0 then r.1 else found_row n other rs
+
+abbrev num_rows : List (ℕ × NumOp)
+num_rows =
+    (0x45, num.Eqz W32) ∷ (0x46, num.Rel W32 rel.Eq) ∷ (0x47, num.Rel W32 rel.Ne) ∷ (0x48, num.Rel W32 rel.LtS) ∷ (0x49, num.Rel W32 rel.LtU) ∷
+    (0x4A, num.Rel W32 rel.GtS) ∷ (0x4B, num.Rel W32 rel.GtU) ∷ (0x4C, num.Rel W32 rel.LeS) ∷ (0x4D, num.Rel W32 rel.LeU) ∷
+    (0x4E, num.Rel W32 rel.GeS) ∷ (0x4F, num.Rel W32 rel.GeU) ∷ (0x50, num.Eqz W64) ∷ (0x51, num.Rel W64 rel.Eq) ∷ (0x52, num.Rel W64 rel.Ne) ∷
+    (0x53, num.Rel W64 rel.LtS) ∷ (0x54, num.Rel W64 rel.LtU) ∷ (0x55, num.Rel W64 rel.GtS) ∷ (0x56, num.Rel W64 rel.GtU) ∷
+    (0x57, num.Rel W64 rel.LeS) ∷ (0x58, num.Rel W64 rel.LeU) ∷ (0x59, num.Rel W64 rel.GeS) ∷ (0x5A, num.Rel W64 rel.GeU) ∷
+    (0x67, num.Un W32 un.Clz) ∷ (0x68, num.Un W32 un.Ctz) ∷ (0x69, num.Un W32 un.Popcnt) ∷ (0x6A, num.Bin W32 bin.Add) ∷
+    (0x6B, num.Bin W32 bin.Sub) ∷ (0x6C, num.Bin W32 bin.Mul) ∷ (0x6D, num.Bin W32 bin.DivS) ∷ (0x6E, num.Bin W32 bin.DivU) ∷
+    (0x6F, num.Bin W32 bin.RemS) ∷ (0x70, num.Bin W32 bin.RemU) ∷ (0x71, num.Bin W32 bin.And) ∷ (0x72, num.Bin W32 bin.Or) ∷
+    (0x73, num.Bin W32 bin.Xor) ∷ (0x74, num.Bin W32 bin.Shl) ∷ (0x75, num.Bin W32 bin.ShrS) ∷ (0x76, num.Bin W32 bin.ShrU) ∷
+    (0x77, num.Bin W32 bin.Rotl) ∷ (0x78, num.Bin W32 bin.Rotr) ∷ (0x79, num.Un W64 un.Clz) ∷ (0x7A, num.Un W64 un.Ctz) ∷
+    (0x7B, num.Un W64 un.Popcnt) ∷ (0x7C, num.Bin W64 bin.Add) ∷ (0x7D, num.Bin W64 bin.Sub) ∷ (0x7E, num.Bin W64 bin.Mul) ∷
+    (0x7F, num.Bin W64 bin.DivS) ∷ (0x80, num.Bin W64 bin.DivU) ∷ (0x81, num.Bin W64 bin.RemS) ∷ (0x82, num.Bin W64 bin.RemU) ∷
+    (0x83, num.Bin W64 bin.And) ∷ (0x84, num.Bin W64 bin.Or) ∷ (0x85, num.Bin W64 bin.Xor) ∷ (0x86, num.Bin W64 bin.Shl) ∷
+    (0x87, num.Bin W64 bin.ShrS) ∷ (0x88, num.Bin W64 bin.ShrU) ∷ (0x89, num.Bin W64 bin.Rotl) ∷ (0x8A, num.Bin W64 bin.Rotr) ∷ (0xA7, num.Wrap) ∷
+    (0xAC, num.ExtendS) ∷ (0xAD, num.ExtendU) ∷ (0xC0, num.Low low.I32S8) ∷ (0xC1, num.Low low.I32S16) ∷ (0xC2, num.Low low.I64S8) ∷
+    (0xC3, num.Low low.I64S16) ∷ (0xC4, num.Low low.I64S32) ∷ []
+
 abbrev pub num_of : ℕ → NumOp
-num_of n = if n == 0x45 then num.Eqz W32 else (if n == 0x46 then num.Rel W32 rel.Eq else (if n == 0x47 then num.Rel W32 rel.Ne else (if n == 0x48 then num.Rel W32 rel.LtS else (if n == 0x49 then num.Rel W32 rel.LtU else (if n == 0x4A then num.Rel W32 rel.GtS else (if n == 0x4B then num.Rel W32 rel.GtU else (if n == 0x4C then num.Rel W32 rel.LeS else (if n == 0x4D then num.Rel W32 rel.LeU else (if n == 0x4E then num.Rel W32 rel.GeS else (if n == 0x4F then num.Rel W32 rel.GeU else (if n == 0x50 then num.Eqz W64 else (if n == 0x51 then num.Rel W64 rel.Eq else (if n == 0x52 then num.Rel W64 rel.Ne else (if n == 0x53 then num.Rel W64 rel.LtS else (if n == 0x54 then num.Rel W64 rel.LtU else (if n == 0x55 then num.Rel W64 rel.GtS else (if n == 0x56 then num.Rel W64 rel.GtU else (if n == 0x57 then num.Rel W64 rel.LeS else (if n == 0x58 then num.Rel W64 rel.LeU else (if n == 0x59 then num.Rel W64 rel.GeS else (if n == 0x5A then num.Rel W64 rel.GeU else (if n == 0x67 then num.Un W32 un.Clz else (if n == 0x68 then num.Un W32 un.Ctz else (if n == 0x69 then num.Un W32 un.Popcnt else (if n == 0x6A then num.Bin W32 bin.Add else (if n == 0x6B then num.Bin W32 bin.Sub else (if n == 0x6C then num.Bin W32 bin.Mul else (if n == 0x6D then num.Bin W32 bin.DivS else (if n == 0x6E then num.Bin W32 bin.DivU else (if n == 0x6F then num.Bin W32 bin.RemS else (if n == 0x70 then num.Bin W32 bin.RemU else (if n == 0x71 then num.Bin W32 bin.And else (if n == 0x72 then num.Bin W32 bin.Or else (if n == 0x73 then num.Bin W32 bin.Xor else (if n == 0x74 then num.Bin W32 bin.Shl else (if n == 0x75 then num.Bin W32 bin.ShrS else (if n == 0x76 then num.Bin W32 bin.ShrU else (if n == 0x77 then num.Bin W32 bin.Rotl else (if n == 0x78 then num.Bin W32 bin.Rotr else (if n == 0x79 then num.Un W64 un.Clz else (if n == 0x7A then num.Un W64 un.Ctz else (if n == 0x7B then num.Un W64 un.Popcnt else (if n == 0x7C then num.Bin W64 bin.Add else (if n == 0x7D then num.Bin W64 bin.Sub else (if n == 0x7E then num.Bin W64 bin.Mul else (if n == 0x7F then num.Bin W64 bin.DivS else (if n == 0x80 then num.Bin W64 bin.DivU else (if n == 0x81 then num.Bin W64 bin.RemS else (if n == 0x82 then num.Bin W64 bin.RemU else (if n == 0x83 then num.Bin W64 bin.And else (if n == 0x84 then num.Bin W64 bin.Or else (if n == 0x85 then num.Bin W64 bin.Xor else (if n == 0x86 then num.Bin W64 bin.Shl else (if n == 0x87 then num.Bin W64 bin.ShrS else (if n == 0x88 then num.Bin W64 bin.ShrU else (if n == 0x89 then num.Bin W64 bin.Rotl else (if n == 0x8A then num.Bin W64 bin.Rotr else (if n == 0xA7 then num.Wrap else (if n == 0xAC then num.ExtendS else (if n == 0xAD then num.ExtendU else (if n == 0xC0 then num.Low low.I32S8 else (if n == 0xC1 then num.Low low.I32S16 else (if n == 0xC2 then num.Low low.I64S8 else (if n == 0xC3 then num.Low low.I64S16 else (num.Low low.I64S32)))))))))))))))))))))))))))))))))))))))))))))))))))))))))))))))))
+num_of n = found_row n num.Wrap num_rows
+
+abbrev load_rows : List (ℕ × LoadOp)
+load_rows =
+    (0x28, load.I32) ∷ (0x29, load.I64) ∷ (0x2C, load.I32S8) ∷ (0x2D, load.I32U8) ∷ (0x2E, load.I32S16) ∷ (0x2F, load.I32U16) ∷ (0x30, load.I64S8) ∷
+    (0x31, load.I64U8) ∷ (0x32, load.I64S16) ∷ (0x33, load.I64U16) ∷ (0x34, load.I64S32) ∷
+    (0x35, load.I64U32) ∷ []
 
 abbrev pub load_of : ℕ → LoadOp
-load_of n = if n == 0x28 then load.I32 else (if n == 0x29 then load.I64 else (if n == 0x2C then load.I32S8 else (if n == 0x2D then load.I32U8 else (if n == 0x2E then load.I32S16 else (if n == 0x2F then load.I32U16 else (if n == 0x30 then load.I64S8 else (if n == 0x31 then load.I64U8 else (if n == 0x32 then load.I64S16 else (if n == 0x33 then load.I64U16 else (if n == 0x34 then load.I64S32 else (load.I64U32)))))))))))
+load_of n = found_row n load.I32 load_rows
+
+abbrev store_rows : List (ℕ × StoreOp)
+store_rows =
+    (0x36, store.I32) ∷ (0x37, store.I64) ∷ (0x3A, store.I32B8) ∷ (0x3B, store.I32B16) ∷ (0x3C, store.I64B8) ∷ (0x3D, store.I64B16) ∷
+    (0x3E, store.I64B32) ∷ []
 
 abbrev pub store_of : ℕ → StoreOp
-store_of n = if n == 0x36 then store.I32 else (if n == 0x37 then store.I64 else (if n == 0x3A then store.I32B8 else (if n == 0x3B then store.I32B16 else (if n == 0x3C then store.I64B8 else (if n == 0x3D then store.I64B16 else (store.I64B32))))))
+store_of n = found_row n store.I32 store_rows
 
 abbrev pub address_of : ℕ → MemArg → Instr
-address_of n m = if (n == 0x2A) || (n == 0x2B) then Float (float.Load n m) else (if (n == 0x38) || (n == 0x39) then Float (float.Store n m) else (if nat_lt n 0x36 then Load (load_of n) m else Store (store_of n) m))
+address_of n m =
+    if (n == 0x2A) || (n == 0x2B) then Float (float.Load n m) else
+    (if (n == 0x38) || (n == 0x39) then Float (float.Store n m) else (if nat_lt n 0x36 then Load (load_of n) m else Store (store_of n) m))
 
 abbrev pub bare_of : ℕ → Instr
-bare_of n = if float_plain n then Float (float.Plain n) else (if n == 0x00 then Unreachable else (if n == 0x01 then Nop else (if n == 0x0F then Return else (if n == 0x1A then Drop else (if n == 0x1B then Select else (Num (num_of n)))))))
+bare_of n =
+    if float_plain n then Float (float.Plain n) else
+    found_row n (Num (num_of n)) ((0x00, Unreachable) ∷ (0x01, Nop) ∷ (0x0F, Return) ∷ (0x1A, Drop) ∷ (0x1B, Select) ∷ [])
 
 abbrev pub make : ℕ → Immediates → Instr
 make n nothing = bare_of n
-make n (number x) = if n == 0x0C then Br x else (if n == 0x0D then BrIf x else (if n == 0x10 then Call x else (if n == 0x20 then LocalGet x else (if n == 0x21 then LocalSet x else (if n == 0x22 then LocalTee x else (if n == 0x23 then GlobalGet x else (GlobalSet x)))))))
+make n (number x) =
+    found_row n Unreachable ((0x0C, Br x) ∷ (0x0D, BrIf x) ∷ (0x10, Call x) ∷ (0x20, LocalGet x) ∷ (0x21, LocalSet x) ∷ (0x22, LocalTee x) ∷
+    (0x23, GlobalGet x) ∷ (0x24, GlobalSet x) ∷ [])
 make n (labels some label) = BrTable some label
 make n (signature type) = CallIndirect type
 make n (address a o) = address_of n (record { align = a; offset = o })
@@ -53,6 +94,14 @@ make n (raw_32 v) = Float (float.Const32 v)
 make n (raw_64 v) = Float (float.Const64 v)
 make n (bulk v) = if v == 10 then MemoryCopy else MemoryFill
 make n never = Unreachable
+
+-- the opcodes that a number follows, of a label, a function, a local or a global
+abbrev is_number : ℕ → Bool
+is_number n = within 0x0C 0x0D n || ((n == 0x10) || within 0x20 0x24 n)
+
+-- the loads and stores
+abbrev is_address : ℕ → Bool
+is_address n = within 0x28 0x3E n
 
 -- which kind of text follows an opcode
 abbrev pub shape : Immediates → ℕ
@@ -73,7 +122,9 @@ abbrev pub is_bare : ℕ → Bool
 is_bare n = nat_lt n 0x02 || ((n == 0x0F) || (within 0x1A 0x1B n || within 0x45 0xC4 n))
 
 abbrev pub shape_of : ℕ → ℕ
-shape_of n = if is_bare n then 0 else (if is_number n then 1 else (if is_address n then 4 else (if n == 0x0E then 2 else (if n == 0x11 then 3 else (if n == 0x3F then 5 else (if n == 0x40 then 5 else (if n == 0x41 then 6 else (if n == 0x42 then 7 else (if n == 0x43 then 8 else (if n == 0x44 then 9 else (if n == 0xFC then 11 else (10))))))))))))
+shape_of n =
+    if is_bare n then 0 else (if is_number n then 1 else (if is_address n then 4 else
+    found_row n 10 ((0x0E, 2) ∷ (0x11, 3) ∷ (0x3F, 5) ∷ (0x40, 5) ∷ (0x41, 6) ∷ (0x42, 7) ∷ (0x43, 8) ∷ (0x44, 9) ∷ (0xFC, 11) ∷ [])))
 
 -- the instruction that a plain text spells is told by its opcode and what follows
 abbrev pub Told : Instr → Type 0
@@ -247,7 +298,7 @@ once_raw64 a b x y m n p q e =
     let high : p.1 ≡ q.1 = ap (λ (v : ℕ × ℕ). v.1) r.1 in
     (r.0, omega (arith, p.3, q.3, low, high))
 
-once_bulk : IsOnce SpellsBulk
+pub once_bulk : IsOnce SpellsBulk
 once_bulk a b x y m n p q e =
     let Zeros : List ℕ → ℕ → Type 0 = λ t k. t ≡ memories_of k in
     let r = once_then SpellsU32 Zeros a b x y m n m n once_u32 (λ c d same u v h. (u ∙ ap memories_of same ∙ sym v, same)) p q e in

@@ -160,14 +160,6 @@ pub data Immediates : Type 0 where
 abbrev pub within : ℕ → ℕ → ℕ → Bool
 within low high byte = not (nat_lt byte low) && not (nat_lt high byte)
 
--- the opcodes that a number follows, of a label, a function, a local or a global
-abbrev pub is_number : ℕ → Bool
-is_number n = within 0x0C 0x0D n || ((n == 0x10) || within 0x20 0x24 n)
-
--- the loads and stores
-abbrev pub is_address : ℕ → Bool
-is_address n = within 0x28 0x3E n
-
 -- the float opcodes that nothing follows
 abbrev pub float_plain : ℕ → Bool
 float_plain byte = within 0x5B 0x66 byte || (within 0x8B 0xA6 byte || (within 0xA8 0xAB byte || within 0xAE 0xBF byte))

@@ -1,5 +1,5 @@
--- Small modules (docs/FORMAT.md): at most a type, a function and a code section, i32 alone, and four instructions without blocks.
-use Rattle.std.specs.Prelude.{◌≡◌, ℕ, ◌⊎◌, List, All}
+-- Small modules: i32 alone, and four instructions without blocks.
+use Rattle.std.specs.Prelude.{◌≡◌, All}
 use Rattle.wasm_types.specs.declared.ops.NumOp.TheVariants.{Bin}
 use Rattle.wasm_types.specs.declared.ops.Width.TheVariants.{W32}
 use Rattle.wasm_types.specs.declared.ops.BinOp.TheVariants.{Add}
@@ -11,7 +11,6 @@ use Rattle.wasm_types.specs.declared.module.Body.{Body}
 use Rattle.wasm_types.specs.declared.module.Module.{Module}
 use Rattle.wasm_types.specs.declared.instr.Instr.{Instr, Drop, LocalGet, I32Const, Num}
 use Rattle.wasm_types.specs.Code.{Code, done, one, code_of}
-use Rattle.wasm_types.specs.Modules.{Spells}
 
 abbrev pub IsI32 : ValType → Type 0
 IsI32 t = t ≡ I32
@@ -37,13 +36,3 @@ IsSmallBody b = All (λ (r : LocalRun). IsI32 r.kind) b.locals × IsSmallCode (c
 -- all value types are i32, and the instructions are those four
 abbrev pub IsSmall : Module → Type 0
 IsSmall m = All IsSmallType m.types × All IsSmallBody m.bodies
-
--- a section of types, functions or code
-abbrev pub IsSmallFrame : ℕ × List ℕ → Type 0
-IsSmallFrame f = (f.0 ≡ 1) ⊎ (f.0 ≡ 3) ⊎ (f.0 ≡ 10)
-
--- The bytes spell a small module, in these kinds of section alone: an empty section of another kind isn't read.
-pub record SpellsSmall (bytes : List ℕ) (m : Module) : Type 0 where
-  pub spelled : Spells bytes m
-  pub kinds : All IsSmallFrame spelled.frames
-  pub small : IsSmall m

@@ -104,17 +104,6 @@ first_large most found (t ∷ ts) e = elim (find_some most t.min found (map init
   | inr h ↦ (let r = first_large most found ts h.1 in (suc r.0, record { counted = r.1.counted; over = r.1.over; earlier = earlier_large most t ts r.0 h.0 r.1.earlier }))
 ]
 
--- what is found among the first, or else among the second, is found among both
-pub found_in_both : (most : ℕ) (xs ys : List Limits) (large both : Option ℕ) (Told : Type 0) → (Told → both ≡ find (nat_lt most) (map initial_size ys)) → large ≡ find (nat_lt most) (map initial_size xs)
-    → MatchOption large Told (λ n. both ≡ Some n) → both ≡ find (nat_lt most) (map initial_size (xs ++ ys))
-found_in_both most xs ys large both Told tells e k =
-    let whole = ap (find (nat_lt most)) (map-append initial_size xs ys) ∙ find-append (nat_lt most) (map initial_size xs) (map initial_size ys) in
-    is_or large both (find (nat_lt most) (map initial_size xs)) (find (nat_lt most) (map initial_size ys)) Told tells e k ∙ sym whole
-  where
-    is_or : (large both one other : Option ℕ) (Told : Type 0) → (Told → both ≡ other) → large ≡ one → MatchOption large Told (λ n. both ≡ Some n) → both ≡ option_or one other
-    is_or None both one other Told tells e k = tells k ∙ ap (λ (o : Option ℕ). option_or o other) e
-    is_or (Some n) both one other Told tells e k = k ∙ ap (λ (o : Option ℕ). option_or o other) e
-
 pub table_found : (m : Module) (large : Option ℕ) (found : Option Over) (Told : ℕ → Over → Type 0) → ((n : ℕ) (over : Over) → Told n over → over ≡ record { which = limit.TableSize; at = 0; count = n })
     → large ≡ find (nat_lt (most_read limit.TableSize)) (map initial_size (tables_of m)) → MatchOption large (found ≡ None) (λ n. IsSomeAnd found (Told n)) → FindsKind m limit.TableSize found
 table_found m None found Told tells e k = subst (FindsKind m limit.TableSize) (sym k) (λ k n counts. omega (arith, each_small 1000000 (tables_of m) (sym e) k counts.0 counts.1, counts.2))

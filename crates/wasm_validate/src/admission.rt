@@ -10,6 +10,7 @@ use crate::floats::first_float;
 use crate::limits::first_over;
 use crate::parts::first_invalid;
 use crate::refusal::AdmitEnd;
+use body_check::Spaces;
 use std::alloc::Global;
 use wasm_types::{Module, NoMemory, ValidModule};
 
@@ -21,10 +22,13 @@ pub fn admit(alloc: Global, m: Module) -> Result<ValidModule, (Module, AdmitEnd)
     requires nesting { NestsAtMost most_nesting m }
     ensures { Admits m result }
 {
-    if let Some(part) = first_float(&m) {
+    let Ok(spaces) = Spaces::new(alloc, &m) else {
+        return Err((m, AdmitEnd::Memory));
+    };
+    if let Some(part) = first_float(&m, &spaces) {
         return Err((m, AdmitEnd::Float { part }));
     }
-    if let Some(over) = first_over(&m) {
+    if let Some(over) = first_over(&m, &spaces) {
         return Err((
             m,
             AdmitEnd::Limit {
@@ -34,7 +38,7 @@ pub fn admit(alloc: Global, m: Module) -> Result<ValidModule, (Module, AdmitEnd)
             },
         ));
     }
-    match first_invalid(alloc, &m) {
+    match first_invalid(alloc, &m, &spaces) {
         Ok(None) => Ok(ValidModule::seal(m)),
         Ok(Some(part)) => Err((m, AdmitEnd::Invalid { part })),
         Err(NoMemory) => Err((m, AdmitEnd::Memory)),

@@ -4,10 +4,12 @@ ghost use Rattle.std.specs.Prelude.{◌≡◌, ◌≤◌, ◌↔◌, All, IsTrue
 ghost use Rattle.wasm_types.specs.declared.place.Part.TheVariants as part;
 ghost use Rattle.wasm_types.specs.Code.{done, onto, code_of};
 ghost use Rattle.wasm_types.specs.Sizes.{HasAtMost};
-ghost use Rattle.wasm_types.specs.Subset.{HasNoFloatIn, IsInteger, IsIntegerBody, IsIntegerCode, IsIntegerElem, IsIntegerFunc, IsIntegerGlobal, IsIntegerImport, IsIntegerKind, IsIntegerSegment, NestsAtMost, most_nesting};
+ghost use Rattle.wasm_types.specs.Subset.{HasNoFloatIn, IsInteger, IsIntegerBody, IsIntegerCode, IsIntegerElem, IsIntegerFunc, IsIntegerGlobal, IsIntegerImport, IsIntegerKind, IsIntegerSegment};
+ghost use Rattle.body_check.specs.Numbered.{Describes};
 ghost use Rattle.wasm_validate.specs.First.{FindsNumber, FindsPart, float_order};
 
-use crate::imports::{imported_funcs, imported_globals};
+use crate::imports::{first_own_func, first_own_global};
+use body_check::Spaces;
 use wasm_types::{
     Body, DataSegment, Elem, FuncType, GlobalDef, ImportKind, Instr, LocalRun, Module, Part,
     ValType,
@@ -146,8 +148,9 @@ fn float_import(m: &Module) -> Option<u32>
 }
 
 /// The number of the first global with a float, the imported ones counted too.
-fn float_global(m: &Module) -> Option<u32>
-    requires { HasAtMost 0x7FFF_FFFF m.now }
+fn float_global(m: &Module, spaces: &Spaces) -> Option<u32>
+    requires described { Describes spaces.now m.now }
+    requires entries { HasAtMost 0x7FFF_FFFF m.now }
     ensures { FindsNumber (λ g. HasNoFloatIn m.now (part.GlobalAt g)) result }
 {
     let at = m
@@ -155,7 +158,7 @@ fn float_global(m: &Module) -> Option<u32>
         .as_slice()
         .iter()
         .position(|global| !is_integer_global(global))?;
-    Some(imported_globals(m.imports.as_slice()) + at as u32)
+    Some(first_own_global(m, spaces) + at as u32)
 }
 
 /// The number of the first element segment with a float.
@@ -172,8 +175,9 @@ fn float_elem(m: &Module) -> Option<u32>
 }
 
 /// The number of the first function with a float, the imported ones counted too.
-fn float_func(m: &Module) -> Option<u32>
-    requires { HasAtMost 0x7FFF_FFFF m.now }
+fn float_func(m: &Module, spaces: &Spaces) -> Option<u32>
+    requires described { Describes spaces.now m.now }
+    requires entries { HasAtMost 0x7FFF_FFFF m.now }
     ensures { FindsNumber (λ f. HasNoFloatIn m.now (part.FuncAt f)) result }
 {
     let at = m
@@ -181,7 +185,7 @@ fn float_func(m: &Module) -> Option<u32>
         .as_slice()
         .iter()
         .position(|body| !is_integer_body(body))?;
-    Some(imported_funcs(m.imports.as_slice()) + at as u32)
+    Some(first_own_func(m, spaces) + at as u32)
 }
 
 /// The number of the first data segment with a float.
@@ -198,9 +202,9 @@ fn float_segment(m: &Module) -> Option<u32>
 }
 
 /// The first part, in the order in which floats are looked for, that holds a float type or a float instruction: none where no part does.
-pub(crate) fn first_float(m: &Module) -> Option<Part>
+pub(crate) fn first_float(m: &Module, spaces: &Spaces) -> Option<Part>
+    requires described { Describes spaces.now m.now }
     requires entries { HasAtMost 0x7FFF_FFFF m.now }
-    requires nesting { NestsAtMost most_nesting m.now }
     ensures { FindsPart (HasNoFloatIn m.now) float_order result }
 {
     if let Some(at) = float_type(m) {
@@ -209,13 +213,13 @@ pub(crate) fn first_float(m: &Module) -> Option<Part>
     if let Some(at) = float_import(m) {
         return Some(Part::ImportAt(at));
     }
-    if let Some(at) = float_global(m) {
+    if let Some(at) = float_global(m, spaces) {
         return Some(Part::GlobalAt(at));
     }
     if let Some(at) = float_elem(m) {
         return Some(Part::ElemAt(at));
     }
-    if let Some(at) = float_func(m) {
+    if let Some(at) = float_func(m, spaces) {
         return Some(Part::FuncAt(at));
     }
     if let Some(at) = float_segment(m) {

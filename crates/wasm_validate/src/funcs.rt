@@ -4,17 +4,15 @@ ghost use Rattle.std.specs.Prelude.{◌≡◌, ◌↔◌, ◌<◌, ◌≤◌, �
 ghost use Rattle.std.specs.Option.{option_copied};
 ghost use Rattle.wasm_types.specs.declared.module.FuncType.{FuncType};
 ghost use Rattle.wasm_types.specs.declared.place.Part.TheVariants as part;
-ghost use Rattle.wasm_types.specs.Code.{code_of, nest};
 ghost use Rattle.wasm_types.specs.Sections.{local_count};
 ghost use Rattle.wasm_types.specs.Sizes.{HasAtMost};
 ghost use Rattle.wasm_types.specs.Spaces.{type_numbered};
-ghost use Rattle.wasm_types.specs.Subset.{NestsAtMost, most_nesting};
 ghost use Rattle.wasm_types.specs.Validity.{Holds, IsValidBody};
 ghost use Rattle.wasm_types.specs.WellFormed.{IsWellFormed};
 ghost use Rattle.body_check.specs.Numbered.{Describes, FewResults};
 ghost use Rattle.wasm_validate.specs.First.{FindsNumber};
 
-use crate::imports::imported_funcs;
+use crate::imports::first_own_func;
 use body_check::{Spaces, is_valid_body};
 use std::alloc::Global;
 use wasm_types::{Body, FuncType, Module, NoMemory};
@@ -52,7 +50,6 @@ fn body_holds(
     requires results { FewResults m.now }
     requires entries { HasAtMost 0x7FFF_FFFF m.now }
     requires locals { local_count body.now.locals < 2 ^ 32 }
-    requires nesting { nest (code_of body.now.code) ≤ most_nesting }
     ensures { IfOk result (λ ok. IsTrue ok ↔ ((F : FuncType) → type_numbered m.now.types (slice_get m.now.funcs own) ≡ Some F → IsValidBody m.now F body.now)) }
 {
     match own_type(m, own) {
@@ -71,10 +68,9 @@ pub(crate) fn first_func(
     requires results { FewResults m.now }
     requires well_formed { IsWellFormed m.now }
     requires entries { HasAtMost 0x7FFF_FFFF m.now }
-    requires nesting { NestsAtMost most_nesting m.now }
     ensures { IfOk result (λ found. FindsNumber (λ f. Holds m.now (part.FuncAt f)) found) }
 {
-    let imported = imported_funcs(m.imports.as_slice());
+    let imported = first_own_func(m, spaces);
     for (k, body) in m.bodies.as_slice().iter().enumerate() {
         let holds = body_holds(alloc, m, spaces, k, body)?;
         if !holds {

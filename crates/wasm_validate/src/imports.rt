@@ -1,34 +1,29 @@
-//! How many functions and globals are imported: the module's own are numbered from there on (section 2.5.1).
+//! Where the numbers of the module's own functions and globals begin: the imported ones come first (section 2.5.1).
 
-ghost use Rattle.std.specs.Prelude.{◌≡◌, ◌≤◌, length};
-ghost use Rattle.wasm_types.specs.Spaces.{func_import, global_import, imported};
+ghost use Rattle.std.specs.Prelude.{◌≡◌, length};
+ghost use Rattle.wasm_types.specs.Sizes.{HasAtMost};
+ghost use Rattle.wasm_types.specs.Spaces.{global_import, import_count, imported};
+ghost use Rattle.body_check.specs.Numbered.{Describes};
 
-use wasm_types::{Import, ImportKind};
+use body_check::Spaces;
+use wasm_types::Module;
 
-/// The number of imported functions, which is the number of the module's first own function.
-pub(crate) fn imported_funcs(imports: &[Import]) -> u32
-    requires { length imports.now ≤ 0x7FFF_FFFF }
-    ensures { result ≡ length (imported func_import imports.now) }
+/// The number of the module's first own function.
+#[tactic(auto, using(crate::proofs::LimitLemmas::few_imports))]
+pub(crate) fn first_own_func(m: &Module, spaces: &Spaces) -> u32
+    requires described { Describes spaces.now m.now }
+    requires entries { HasAtMost 0x7FFF_FFFF m.now }
+    ensures { result ≡ import_count m.now }
 {
-    let mut count = 0;
-    for import in imports {
-        if let ImportKind::Func(_) = import.kind {
-            count += 1;
-        }
-    }
-    count
+    (spaces.funcs.len() - m.funcs.len()) as u32
 }
 
-/// The number of imported globals, which is the number of the module's first own global.
-pub(crate) fn imported_globals(imports: &[Import]) -> u32
-    requires { length imports.now ≤ 0x7FFF_FFFF }
-    ensures { result ≡ length (imported global_import imports.now) }
+/// The number of the module's first own global.
+#[tactic(auto, using(crate::proofs::LimitLemmas::few_imports))]
+pub(crate) fn first_own_global(m: &Module, spaces: &Spaces) -> u32
+    requires described { Describes spaces.now m.now }
+    requires entries { HasAtMost 0x7FFF_FFFF m.now }
+    ensures { result ≡ length (imported global_import m.now.imports) }
 {
-    let mut count = 0;
-    for import in imports {
-        if let ImportKind::Global(_) = import.kind {
-            count += 1;
-        }
-    }
-    count
+    (spaces.globals.len() - m.globals.len()) as u32
 }

@@ -4,20 +4,21 @@ ghost use Rattle.std.specs.Prelude.{◌≡◌, ◌^◌, ◌<◌, find, map, nat_
 ghost use Rattle.wasm_types.specs.declared.place.LimitKind.TheVariants.{Functions, Params, Globals, TableSize, Locals, Positions};
 ghost use Rattle.wasm_types.specs.Sections.{local_count};
 ghost use Rattle.wasm_types.specs.Sizes.{HasAtMost};
-ghost use Rattle.wasm_types.specs.Spaces.{imported, table_import};
 ghost use Rattle.wasm_types.specs.Subset.{most_read};
 ghost use Rattle.wasm_types.specs.WellFormed.{IsWellFormed};
+ghost use Rattle.body_check.specs.Numbered.{Describes};
 ghost use Rattle.wasm_validate.specs.Limits.{FindsKind, FindsOver, initial_size};
 
-use crate::imports::{imported_funcs, imported_globals};
-use wasm_types::{Import, ImportKind, LimitKind, Limits, LocalRun, Module};
+use crate::imports::first_own_func;
+use body_check::Spaces;
+use wasm_types::{LimitKind, Limits, LocalRun, Module};
 
 /// The most functions, imported and own.
-const MOST_FUNCTIONS: u32 = 10_000;
+const MOST_FUNCTIONS: usize = 10_000;
 /// The most parameters of a type.
 const MOST_PARAMS: usize = 64;
 /// The most globals, imported and own.
-const MOST_GLOBALS: u32 = 128;
+const MOST_GLOBALS: usize = 128;
 /// The most entries that a table begins with.
 const MOST_ENTRIES: u32 = 1_000_000;
 /// The most locals that a body declares.
@@ -34,19 +35,18 @@ pub(crate) struct Over {
 }
 
 /// How many functions there are, if too many.
-#[tactic(auto, using(crate::proofs::LimitLemmas::few_imports))]
-fn over_functions(m: &Module) -> Option<Over>
-    requires { HasAtMost 0x7FFF_FFFF m.now }
+fn over_functions(m: &Module, spaces: &Spaces) -> Option<Over>
+    requires { Describes spaces.now m.now }
     ensures { FindsKind m.now Functions result }
 {
-    let count = m.func_count();
+    let count = spaces.funcs.len();
     if count <= MOST_FUNCTIONS {
         return None;
     }
     Some(Over {
         which: LimitKind::Functions,
         at: 0,
-        count: u64::from(count),
+        count: count as u64,
     })
 }
 
@@ -69,37 +69,22 @@ fn over_params(m: &Module) -> Option<Over>
 }
 
 /// How many globals there are, if too many.
-#[tactic(auto, using(crate::proofs::LimitLemmas::few_imports))]
-fn over_globals(m: &Module) -> Option<Over>
-    requires { HasAtMost 0x7FFF_FFFF m.now }
+fn over_globals(m: &Module, spaces: &Spaces) -> Option<Over>
+    requires { Describes spaces.now m.now }
     ensures { FindsKind m.now Globals result }
 {
-    let count = imported_globals(m.imports.as_slice()) + m.globals.len() as u32;
+    let count = spaces.globals.len();
     if count <= MOST_GLOBALS {
         return None;
     }
     Some(Over {
         which: LimitKind::Globals,
         at: 0,
-        count: u64::from(count),
+        count: count as u64,
     })
 }
 
-/// How many entries the first imported table over the limit begins with.
-fn large_import(imports: &[Import]) -> Option<u32>
-    ensures { result ≡ find (nat_lt (most_read TableSize)) (map initial_size (imported table_import imports.now)) }
-{
-    for import in imports {
-        if let ImportKind::Table(limits) = import.kind {
-            if limits.min > MOST_ENTRIES {
-                return Some(limits.min);
-            }
-        }
-    }
-    None
-}
-
-/// How many entries the first of the module's own tables over the limit begins with.
+/// How many entries the first table over the limit begins with.
 fn large_table(tables: &[Limits]) -> Option<u32>
     ensures { result ≡ find (nat_lt (most_read TableSize)) (map initial_size tables.now) }
 {
@@ -110,16 +95,15 @@ fn large_table(tables: &[Limits]) -> Option<u32>
 }
 
 /// The first table that begins with too many entries.
-fn over_tables(m: &Module) -> Option<Over>
+fn over_tables(m: &Module, spaces: &Spaces) -> Option<Over>
+    requires { Describes spaces.now m.now }
     ensures { FindsKind m.now TableSize result }
 {
-    large_import(m.imports.as_slice())
-        .or_else(|| large_table(m.tables.as_slice()))
-        .map(|count| Over {
-            which: LimitKind::TableSize,
-            at: 0,
-            count: u64::from(count),
-        })
+    large_table(spaces.tables.as_slice()).map(|count| Over {
+        which: LimitKind::TableSize,
+        at: 0,
+        count: u64::from(count),
+    })
 }
 
 /// How many locals the runs declare.
@@ -136,12 +120,13 @@ fn declared_locals(runs: &[LocalRun]) -> u32
 
 /// The first function whose body declares too many locals.
 #[tactic(auto, using(crate::proofs::LimitLemmas::few_imports))]
-fn over_locals(m: &Module) -> Option<Over>
+fn over_locals(m: &Module, spaces: &Spaces) -> Option<Over>
+    requires described { Describes spaces.now m.now }
     requires well_formed { IsWellFormed m.now }
     requires entries { HasAtMost 0x7FFF_FFFF m.now }
     ensures { FindsKind m.now Locals result }
 {
-    let first = imported_funcs(m.imports.as_slice());
+    let first = first_own_func(m, spaces);
     for (k, body) in m.bodies.as_slice().iter().enumerate() {
         let count = declared_locals(body.locals.as_slice());
         if count > MOST_LOCALS {
@@ -157,11 +142,12 @@ fn over_locals(m: &Module) -> Option<Over>
 
 /// The first function whose body has too many positions.
 #[tactic(auto, using(crate::proofs::LimitLemmas::few_imports))]
-fn over_positions(m: &Module) -> Option<Over>
-    requires { HasAtMost 0x7FFF_FFFF m.now }
+fn over_positions(m: &Module, spaces: &Spaces) -> Option<Over>
+    requires described { Describes spaces.now m.now }
+    requires entries { HasAtMost 0x7FFF_FFFF m.now }
     ensures { FindsKind m.now Positions result }
 {
-    let first = imported_funcs(m.imports.as_slice());
+    let first = first_own_func(m, spaces);
     for (k, body) in m.bodies.as_slice().iter().enumerate() {
         let count = body.count();
         if count > MOST_POSITIONS {
@@ -176,15 +162,16 @@ fn over_positions(m: &Module) -> Option<Over>
 }
 
 /// The first number over its limit, in the order of `LimitKind`: none where the module is within the limits of what is read.
-pub(crate) fn first_over(m: &Module) -> Option<Over>
+pub(crate) fn first_over(m: &Module, spaces: &Spaces) -> Option<Over>
+    requires described { Describes spaces.now m.now }
     requires well_formed { IsWellFormed m.now }
     requires entries { HasAtMost 0x7FFF_FFFF m.now }
     ensures { FindsOver m.now result }
 {
-    over_functions(m)
+    over_functions(m, spaces)
         .or_else(|| over_params(m))
-        .or_else(|| over_globals(m))
-        .or_else(|| over_tables(m))
-        .or_else(|| over_locals(m))
-        .or_else(|| over_positions(m))
+        .or_else(|| over_globals(m, spaces))
+        .or_else(|| over_tables(m, spaces))
+        .or_else(|| over_locals(m, spaces))
+        .or_else(|| over_positions(m, spaces))
 }

@@ -3,7 +3,6 @@
 ghost use Rattle.std.specs.Prelude.{◌<◌, IfOk, MatchOption};
 ghost use Rattle.wasm_types.specs.declared.place.Part.{Part};
 ghost use Rattle.wasm_types.specs.Sizes.{HasAtMost};
-ghost use Rattle.wasm_types.specs.Subset.{NestsAtMost, most_nesting};
 ghost use Rattle.wasm_types.specs.Validity.{Holds};
 ghost use Rattle.wasm_types.specs.WellFormed.{IsWellFormed};
 ghost use Rattle.body_check.specs.Numbered.{Describes};
@@ -21,8 +20,9 @@ use std::alloc::Global;
 use wasm_types::{Module, NoMemory, Part};
 
 /// The first of the types, the imports and the types of own functions that isn't valid.
-fn first_declaration(m: &Module) -> Option<Part>
-    requires { HasAtMost 0x7FFF_FFFF m.now }
+fn first_declaration(m: &Module, spaces: &Spaces) -> Option<Part>
+    requires described { Describes spaces.now m.now }
+    requires entries { HasAtMost 0x7FFF_FFFF m.now }
     ensures { MatchOption result ((p : Part) → valid_order p < 3 → Holds m.now p) (IsFirstWithout (Holds m.now) valid_order) }
 {
     if let Some(k) = first_type(m) {
@@ -31,7 +31,7 @@ fn first_declaration(m: &Module) -> Option<Part>
     if let Some(k) = first_import(m) {
         return Some(Part::ImportAt(k));
     }
-    match first_func_type(m) {
+    match first_func_type(m, spaces) {
         Some(func) => Some(Part::FuncTypeAt(func)),
         None => None,
     }
@@ -65,7 +65,6 @@ fn first_body_or_export(
     requires described { Describes spaces.now m.now }
     requires well_formed { IsWellFormed m.now }
     requires entries { HasAtMost 0x7FFF_FFFF m.now }
-    requires nesting { NestsAtMost most_nesting m.now }
     requires earlier { (p : Part) → valid_order p < 6 → Holds m.now p }
     ensures { IfOk result (λ found. MatchOption found ((p : Part) → valid_order p < 8 → Holds m.now p) (IsFirstWithout (Holds m.now) valid_order)) }
 {
@@ -98,21 +97,24 @@ fn first_start_or_segment(m: &Module, spaces: &Spaces) -> Option<Part>
 }
 
 /// The first part, in the order in which validity is tested, that isn't valid: none where all are. An error comes only where memory is refused.
-pub(crate) fn first_invalid(alloc: Global, m: &Module) -> Result<Option<Part>, NoMemory>
+pub(crate) fn first_invalid(
+    alloc: Global,
+    m: &Module,
+    spaces: &Spaces,
+) -> Result<Option<Part>, NoMemory>
+    requires described { Describes spaces.now m.now }
     requires well_formed { IsWellFormed m.now }
     requires entries { HasAtMost 0x7FFF_FFFF m.now }
-    requires nesting { NestsAtMost most_nesting m.now }
     ensures { IfOk result (λ found. FindsPart (Holds m.now) valid_order found) }
 {
-    let spaces = Spaces::new(alloc, m)?;
-    if let Some(part) = first_declaration(m) {
+    if let Some(part) = first_declaration(m, spaces) {
         return Ok(Some(part));
     }
-    if let Some(part) = first_storage(m, &spaces) {
+    if let Some(part) = first_storage(m, spaces) {
         return Ok(Some(part));
     }
-    if let Some(part) = first_body_or_export(alloc, m, &spaces)? {
+    if let Some(part) = first_body_or_export(alloc, m, spaces)? {
         return Ok(Some(part));
     }
-    Ok(first_start_or_segment(m, &spaces))
+    Ok(first_start_or_segment(m, spaces))
 }

@@ -4,9 +4,11 @@ ghost use Rattle.std.specs.Prelude.{◌↔◌, ◌≤◌, ◌<◌, IfSome, IsTru
 ghost use Rattle.wasm_types.specs.declared.place.Part.TheVariants as part;
 ghost use Rattle.wasm_types.specs.Sizes.{HasAtMost};
 ghost use Rattle.wasm_types.specs.Validity.{Holds};
+ghost use Rattle.body_check.specs.Numbered.{Describes};
 ghost use Rattle.wasm_validate.specs.First.{FindsNumber};
 
-use crate::imports::imported_funcs;
+use crate::imports::first_own_func;
+use body_check::Spaces;
 use wasm_types::{FuncType, Module};
 
 /// Whether a type has at most one result (section 3.2.2).
@@ -36,10 +38,11 @@ fn first_untyped(m: &Module) -> Option<usize>
 }
 
 /// The first own function whose type is unknown (section 3.4.1).
-pub(crate) fn first_func_type(m: &Module) -> Option<u32>
-    requires { HasAtMost 0x7FFF_FFFF m.now }
+pub(crate) fn first_func_type(m: &Module, spaces: &Spaces) -> Option<u32>
+    requires described { Describes spaces.now m.now }
+    requires entries { HasAtMost 0x7FFF_FFFF m.now }
     ensures { FindsNumber (λ f. Holds m.now (part.FuncTypeAt f)) result }
 {
     let own = first_untyped(m)?;
-    Some(imported_funcs(m.imports.as_slice()) + own as u32)
+    Some(first_own_func(m, spaces) + own as u32)
 }

@@ -13,6 +13,4 @@ pub use top::{law_one_answer, law_some_answer, wassail};
 pub use words::{Command, WordsEnd, parse_words};
 
 #[cfg(test)]
-mod layer_tests;
-#[cfg(test)]
 mod tests;

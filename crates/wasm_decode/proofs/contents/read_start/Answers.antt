@@ -2,5 +2,5 @@ use Rattle.wasm_types.specs.Numbers.{SpellsU32}
 use Rattle.wasm_types.proofs.ModuleLemmas.{none_whole}
 use Rattle.wasm_decode.proofs.contents.read_start.Goals as goal
 
-pub returns-in-None : goal.returns-in-None
-returns-in-None c = λ n p. none_whole SpellsU32 c.args.text.now n c.in-None.ensures p
+pub returns-in_err-func : goal.returns-in_err-func
+returns-in_err-func c = rw c.from_residual.ensures (λ n p. none_whole SpellsU32 c.args.text.now n c.in_err-func.ensures p)

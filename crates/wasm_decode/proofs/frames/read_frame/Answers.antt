@@ -14,13 +14,17 @@ known last id (inl e) = omega (arith, e)
 known last id (inr h) = h.1
 
 pub returns-then-not-may_follow : goal.returns-then-not-may_follow
-returns-then-not-may_follow c = no_id c.args.bytes.now c.args.last c.args.at c.requires (λ h. let t = c.may_follow.ensures.1 h in let f = c.if-not-may_follow.true in absurd cc)
+returns-then-not-may_follow c = no_id c.args.bytes.now c.args.last c.args.at c.requires (λ h. let t = c.may_follow.ensures.1 h in
+    let f = c.if-not-may_follow.true in absurd cc)
 
-pub returns-in-Some : goal.returns-in-Some
-returns-in-Some c =
-    let s = c.in-Some.ensures.0 in
-    let may = c.may_follow.ensures.0 c.if-not-may_follow.false in
-    (frame_stands c.args.bytes.now c.args.last c.args.at c.in-Some.end _ (slice_range c.args.bytes.now c.in-Some.start c.in-Some.end) c.requires refl may s, (c.in-Some.ensures.1, within s, known c.args.last (get_or c.args.bytes.now c.args.at 0) may))
+pub returns : goal.returns
+returns c =
+    let s = c.in_ok-start.ensures.0 in
+    let may = c.may_follow.ensures.0 c.if-not-may_follow.false in (
+      frame_stands c.args.bytes.now c.args.last c.args.at c.in_ok-start.end _ (slice_range c.args.bytes.now c.in_ok-start.start c.in_ok-start.end) c.requires
+          refl may s,
+      (c.in_ok-start.ensures.1, within s, known c.args.last (get_or c.args.bytes.now c.args.at 0) may),
+    )
 
-pub returns-in-None : goal.returns-in-None
-returns-in-None c = no_contents c.args.bytes.now c.args.last c.args.at c.requires c.in-None.ensures
+pub returns-in_err-start : goal.returns-in_err-start
+returns-in_err-start c = rw c.from_residual.ensures (no_contents c.args.bytes.now c.args.last c.args.at c.requires c.in_err-start.ensures)

@@ -8,7 +8,12 @@ within : {bytes : List ℕ} {at end v : ℕ} → Stands SpellsU32 bytes at end v
 within s = s.within
 
 pub returns-then-size-bytes : goal.returns-then-size-bytes
-returns-then-size-bytes c = range_past c.args.bytes.now c.args.at c.in-Some.start c.in-Some.size c.in-Some.ensures (omega (arith, c.if-size-bytes.true, within c.in-Some.ensures))
+returns-then-size-bytes c = range_past c.args.bytes.now c.args.at c.in_ok-size.start c.in_ok-size.size c.in_ok-size.ensures
+    (omega (arith, c.if-size-bytes.true, within c.in_ok-size.ensures))
 
-pub returns-else-size-bytes : goal.returns-else-size-bytes
-returns-else-size-bytes c = (range_stands c.args.bytes.now c.args.at c.in-Some.start c.in-Some.size (c.in-Some.start + c.in-Some.size) c.in-Some.ensures refl (omega (arith, c.if-size-bytes.false, within c.in-Some.ensures)), omega arith)
+pub returns : goal.returns
+returns c = (
+  range_stands c.args.bytes.now c.args.at c.in_ok-size.start c.in_ok-size.size (c.in_ok-size.start + c.in_ok-size.size) c.in_ok-size.ensures refl
+      (omega (arith, c.if-size-bytes.false, within c.in_ok-size.ensures)),
+  omega arith,
+)

@@ -9,13 +9,13 @@ use Rattle.wasm_validate.proofs.ImportLemmas.{length-imported_funcs}
 use Rattle.wasm_validate.proofs.floats.float_func.Goals as goal
 
 pub overflow_add-result : goal.overflow_add-result
-overflow_add-result c = omega (arith, length-imported_funcs c.args.m.now.imports, ap (λ (is : List Import). length (imported func_import is)) c.as_slice-2.ensures, c.in_ok-at.ensures.bound, ap (λ (xs : List _). length xs) c.as_slice.ensures)
+overflow_add-result c = omega (arith, length-imported_funcs c.args.m.now.imports, c.in_ok-at.ensures.bound, ap (λ (xs : List _). length xs) c.as_slice.ensures)
 
 pub returns : goal.returns
 returns c =
     let bodies = c.args.m.now.bodies in
     let n = length (imported func_import c.args.m.now.imports) in
-    let own : c.imported_funcs.result + c.in_ok-at.at ≡ n + c.in_ok-at.at = cc in
-    let found = first_own IsIntegerBody bodies n c.in_ok-at.at (c.imported_funcs.result + c.in_ok-at.at) own
+    let own : c.first_own_func.result + c.in_ok-at.at ≡ n + c.in_ok-at.at = cc in
+    let found = first_own IsIntegerBody bodies n c.in_ok-at.at (c.first_own_func.result + c.in_ok-at.at) own
     (IsFirst-from_position _ _ _ (λ x. IsIntegerBody x → ⊥) IsIntegerBody c.in_ok-at.ensures.ran (YieldsList-from_slice bodies cc) (λ x q k. search (rules, tests)) (λ x q k. search (rules, tests))) in
     (λ h. found.0 (λ b le is. h b (le, is)), λ f lt b has. found.1 f lt b has.0 has.1)

@@ -9,12 +9,12 @@ use Rattle.wasm_validate.proofs.ImportLemmas.{length-imported_globals}
 use Rattle.wasm_validate.proofs.floats.float_global.Goals as goal
 
 pub overflow_add-result : goal.overflow_add-result
-overflow_add-result c = omega (arith, length-imported_globals c.args.m.now.imports, ap (λ (is : List Import). length (imported global_import is)) c.as_slice-2.ensures, c.in_ok-at.ensures.bound, ap (λ (xs : List _). length xs) c.as_slice.ensures)
+overflow_add-result c = omega (arith, length-imported_globals c.args.m.now.imports, c.in_ok-at.ensures.bound, ap (λ (xs : List _). length xs) c.as_slice.ensures)
 
 pub returns : goal.returns
 returns c =
     let globals = c.args.m.now.globals in
     let n = length (imported global_import c.args.m.now.imports) in
-    let own : c.imported_globals.result + c.in_ok-at.at ≡ n + c.in_ok-at.at = cc in
-    first_own IsIntegerGlobal globals n c.in_ok-at.at (c.imported_globals.result + c.in_ok-at.at) own
+    let own : c.first_own_global.result + c.in_ok-at.at ≡ n + c.in_ok-at.at = cc in
+    first_own IsIntegerGlobal globals n c.in_ok-at.at (c.first_own_global.result + c.in_ok-at.at) own
     (IsFirst-from_position _ _ _ (λ x. IsIntegerGlobal x → ⊥) IsIntegerGlobal c.in_ok-at.ensures.ran (YieldsList-from_slice globals cc) (λ x q k. search (rules, tests)) (λ x q k. search (rules, tests)))

@@ -1,15 +1,12 @@
 use Rattle.std.proofs.Common.{◌+◌, List, length, arith, refl, ap, ◌∙◌}
-use Rattle.wasm_types.specs.declared.module.Import.{Import}
-use Rattle.wasm_types.specs.Spaces.{imported, func_import}
 use Rattle.wasm_validate.proofs.LimitLemmas.{position_count, within_more, bodies_within, first_body}
 use Rattle.wasm_validate.proofs.limits.over_positions.Goals as goal
 
 pub returns-then-count-gt-MOST_POSITIONS : goal.returns-then-count-gt-MOST_POSITIONS
 returns-then-count-gt-MOST_POSITIONS c =
-    let m = c.args.m.now in
-    let first = ap (λ (is : List Import). length (imported func_import is)) c.as_slice.ensures in (
+    let m = c.args.m.now in (
       refl,
-      first_body position_count 100000 m c.as_slice-body-items.result.now c.loop-k.k c.from.result (c.imported_funcs-first.result + c.loop-k.k) c.body-item.result c.as_slice-body-items.ensures
+      first_body position_count 100000 m c.as_slice-body-items.result.now c.loop-k.k c.from.result (c.first_own_func-first.result + c.loop-k.k) c.body-item.result c.as_slice-body-items.ensures
           c.loop-k-test.true c.body-item.is (c.from.ensures ∙ c.count-count.ensures) (omega arith) (omega arith) c.loop-k.invariant,
     )
 
