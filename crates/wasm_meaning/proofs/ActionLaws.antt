@@ -119,7 +119,8 @@ local_frame k v st Host off = (refl, refl)
 
 local_written : (k : ℕ) (v : Value) (st st' : Store) (x : Loc) → is_local k x ≡ true → EqAt x (set_local k v st) (set_local k v st')
 local_written k v st st' (Local j) on =
-    subst (λ z. cell (value.I32 0) (put (value.I32 0) k v st'.locals) z ≡ cell (value.I32 0) (put (value.I32 0) k v st.locals) z) (eqb-true k j on) (cell_put_same (value.I32 0) k v st'.locals ∙ sym (cell_put_same (value.I32 0) k v st.locals))
+    subst (λ z. cell (value.I32 0) (put (value.I32 0) k v st'.locals) z ≡ cell (value.I32 0) (put (value.I32 0) k v st.locals) z) (eqb-true k j on)
+    (cell_put_same (value.I32 0) k v st'.locals ∙ sym (cell_put_same (value.I32 0) k v st.locals))
 local_written k v st st' (Global j) on = never' on
 local_written k v st st' Mem on = never' on
 local_written k v st st' Size on = never' on
@@ -135,7 +136,8 @@ global_frame k v st Host off = (refl, refl)
 global_written : (k : ℕ) (v : Value) (st st' : Store) (x : Loc) → is_global k x ≡ true → EqAt x (set_global k v st) (set_global k v st')
 global_written k v st st' (Local j) on = never' on
 global_written k v st st' (Global j) on =
-    subst (λ z. cell (value.I32 0) (put (value.I32 0) k v st'.state.globals) z ≡ cell (value.I32 0) (put (value.I32 0) k v st.state.globals) z) (eqb-true k j on)
+    subst (λ z. cell (value.I32 0) (put (value.I32 0) k v st'.state.globals) z ≡ cell (value.I32 0) (put (value.I32 0) k v st.state.globals) z)
+    (eqb-true k j on)
     (cell_put_same (value.I32 0) k v st'.state.globals ∙ sym (cell_put_same (value.I32 0) k v st.state.globals))
 global_written k v st st' Mem on = never' on
 global_written k v st st' Size on = never' on
@@ -148,7 +150,8 @@ bytes_frame bytes st Mem off = never off
 bytes_frame bytes st Size off = refl
 bytes_frame bytes st Host off = (refl, refl)
 
-bytes_written : (bytes bytes' : List ℕ) (st st' : Store) → SameBytes bytes bytes' → (x : Loc) → is_mem x ≡ true → EqAt x (with_bytes bytes st) (with_bytes bytes' st')
+bytes_written : (bytes bytes' : List ℕ) (st st' : Store) → SameBytes bytes bytes' → (x : Loc) → is_mem x ≡ true
+    → EqAt x (with_bytes bytes st) (with_bytes bytes' st')
 bytes_written bytes bytes' st st' h (Local j) on = never' on
 bytes_written bytes bytes' st st' h (Global j) on = never' on
 bytes_written bytes bytes' st st' h Mem on = h
@@ -171,7 +174,8 @@ size_written st st' e Host on = never' on
 
 -- ---- numbers
 
-made_gives : (t : ValType) (o : Option Made) (st : Store) (e : Effect) → made_by t o st ≡ Gives e → (n : ℕ) × (o ≡ Some (Makes n)) × (record { results = value_in t n ∷ []; store = st } ≡ e)
+made_gives : (t : ValType) (o : Option Made) (st : Store) (e : Effect) → made_by t o st ≡ Gives e
+    → (n : ℕ) × (o ≡ Some (Makes n)) × (record { results = value_in t n ∷ []; store = st } ≡ e)
 made_gives t None st e h = stuck _ e h tt
 made_gives t (Some (Makes n)) st e h = (n, refl, gives_is _ e h)
 made_gives t (Some (Traps reason)) st e h = stuck _ e h tt
@@ -205,11 +209,13 @@ abbrev grow_by : Bool → ℕ → Store → Answer
 grow_by b n s = if b then gives (value.I32 s.state.pages ∷ []) (grown n s) else gives (value.I32 4294967295 ∷ []) s
 
 -- it changes no store
-same_store : (a : Action) (vs results : List Value) (st : Store) (e : Effect) → Gives (record { results = results; store = st }) ≡ Gives e → length vs ≡ takes_in a → length results ≡ leaves_in a → Does a vs st e
+same_store : (a : Action) (vs results : List Value) (st : Store) (e : Effect) → Gives (record { results = results; store = st }) ≡ Gives e
+    → length vs ≡ takes_in a → length results ≡ leaves_in a → Does a vs st e
 same_store a vs results st e h t l = subst (λ z. Does a vs st z) (gives_is _ e h) (record { took = t; left = l; frame = λ x off. eq-refl x st; turns = refl })
 
 -- it changes the store so
-other_store : (a : Action) (vs results : List Value) (st st' : Store) (e : Effect) → record { results = results; store = st' } ≡ e → length vs ≡ takes_in a → length results ≡ leaves_in a
+other_store : (a : Action) (vs results : List Value) (st st' : Store) (e : Effect) → record { results = results; store = st' } ≡ e → length vs ≡ takes_in a
+    → length results ≡ leaves_in a
     → ((x : Loc) → writes_in a x ≡ false → EqAt x st st') → st'.state.turns ≡ st.state.turns → Does a vs st e
 other_store a vs results st st' e h t l f n = subst (λ z. Does a vs st z) h (record { took = t; left = l; frame = f; turns = n })
 
@@ -218,7 +224,8 @@ does_by cap Nothing [] st e h = same_store Nothing [] [] st e h refl refl
 does_by cap (Const v) [] st e h = same_store (Const v) [] (v ∷ []) st e h refl refl
 does_by cap (Number op) vs st e h =
     let q = made_gives (number_type op) (operate op (map number_of vs)) st e h in
-    other_store (Number op) vs (value_in (number_type op) q.0 ∷ []) st st e q.2 (sym (length_numbers vs) ∙ operands_are op (map number_of vs) q.0 q.1) refl (λ x off. eq-refl x st) refl
+    other_store (Number op) vs (value_in (number_type op) q.0 ∷ []) st st e q.2 (sym (length_numbers vs) ∙ operands_are op (map number_of vs) q.0 q.1) refl
+    (λ x off. eq-refl x st) refl
 does_by cap Discard (v ∷ []) st e h = same_store Discard (v ∷ []) [] st e h refl refl
 does_by cap Choose (n ∷ b ∷ a ∷ []) st e h = same_store Choose (n ∷ b ∷ a ∷ []) (_ ∷ []) st e h refl refl
 does_by cap (Get k) [] st e h = same_store (Get k) [] (_ ∷ []) st e h refl refl
@@ -226,23 +233,28 @@ does_by cap (Set k) (v ∷ []) st e h = other_store (Set k) (v ∷ []) [] st (se
 does_by cap (Tee k) (v ∷ []) st e h = other_store (Tee k) (v ∷ []) (v ∷ []) st (set_local k v st) e (gives_is _ e h) refl refl (local_frame k v st) refl
 does_by cap (GetGlobal k) [] st e h = same_store (GetGlobal k) [] (_ ∷ []) st e h refl refl
 does_by cap (SetGlobal k) (v ∷ []) st e h = other_store (SetGlobal k) (v ∷ []) [] st (set_global k v st) e (gives_is _ e h) refl refl (global_frame k v st) refl
-does_by cap (Read access sg) (a ∷ []) st e h = let q = passed _ _ _ _ e h in other_store (Read access sg) (a ∷ []) _ st st e q.1 refl refl (λ x off. eq-refl x st) refl
-does_by cap (Write access) (v ∷ a ∷ []) st e h = let q = passed _ _ _ _ e h in other_store (Write access) (v ∷ a ∷ []) [] st _ e q.1 refl refl (bytes_frame _ st) refl
+does_by cap (Read access sg) (a ∷ []) st e h =
+    let q = passed _ _ _ _ e h in other_store (Read access sg) (a ∷ []) _ st st e q.1 refl refl (λ x off. eq-refl x st) refl
+does_by cap (Write access) (v ∷ a ∷ []) st e h =
+    let q = passed _ _ _ _ e h in other_store (Write access) (v ∷ a ∷ []) [] st _ e q.1 refl refl (bytes_frame _ st) refl
 does_by cap Pages [] st e h = same_store Pages [] (_ ∷ []) st e h refl refl
 does_by cap Grow (n ∷ []) st e h = go (nat_le (st.state.pages + number_of n) cap) h
   where
     go : (b : Bool) → grow_by b (number_of n) st ≡ Gives e → Does Grow (n ∷ []) st e
     go true h = other_store Grow (n ∷ []) (_ ∷ []) st (grown (number_of n) st) e (gives_is _ e h) refl refl (grown_frame (number_of n) st) refl
     go false h = same_store Grow (n ∷ []) (_ ∷ []) st e h refl refl
-does_by cap Copy (n ∷ from ∷ to ∷ []) st e h = let q = passed _ _ _ _ e h in other_store Copy (n ∷ from ∷ to ∷ []) [] st _ e q.1 refl refl (bytes_frame _ st) refl
+does_by cap Copy (n ∷ from ∷ to ∷ []) st e h =
+    let q = passed _ _ _ _ e h in other_store Copy (n ∷ from ∷ to ∷ []) [] st _ e q.1 refl refl (bytes_frame _ st) refl
 does_by cap Fill (n ∷ v ∷ to ∷ []) st e h = let q = passed _ _ _ _ e h in other_store Fill (n ∷ v ∷ to ∷ []) [] st _ e q.1 refl refl (bytes_frame _ st) refl
 does_by cap a vs st e h = stuck _ e h tt
 
 -- ---- and that it does the same
 
-same_of : (a : Action) (vs results vs' results' : List Value) (st1 st2 : Store) (e e' : Effect) → record { results = results; store = st1 } ≡ e → record { results = results'; store = st2 } ≡ e'
+same_of : (a : Action) (vs results vs' results' : List Value) (st1 st2 : Store) (e e' : Effect) → record { results = results; store = st1 } ≡ e
+    → record { results = results'; store = st2 } ≡ e'
     → results' ≡ results → ((x : Loc) → writes_in a x ≡ true → EqAt x st1 st2) → SameEnd a e e'
-same_of a vs results vs' results' st1 st2 e e' h h' r w = subst (λ z. SameEnd a z e') h (subst (λ z. SameEnd a (record { results = results; store = st1 }) z) h' (record { results = r; written = w }))
+same_of a vs results vs' results' st1 st2 e e' h h' r w =
+    subst (λ z. SameEnd a z e') h (subst (λ z. SameEnd a (record { results = results; store = st1 }) z) h' (record { results = r; written = w }))
 
 number_in : Option Made → ℕ
 number_in (Some (Makes n)) = n
@@ -252,49 +264,69 @@ same_number : (o : Option Made) (n n' : ℕ) → o ≡ Some (Makes n) → o ≡ 
 unfolding number_in
 same_number o n n' e e' = sym (ap number_in e') ∙ ap number_in e
 
-pub same_by : (cap : ℕ) (a : Action) (vs : List Value) (st st' : Store) (e e' : Effect) → ((x : Loc) → reads_in a x ≡ true → EqAt x st st') → act cap a vs st ≡ Gives e → act cap a vs st' ≡ Gives e' → SameEnd a e e'
+pub same_by : (cap : ℕ) (a : Action) (vs : List Value) (st st' : Store) (e e' : Effect) → ((x : Loc) → reads_in a x ≡ true → EqAt x st st')
+    → act cap a vs st ≡ Gives e → act cap a vs st' ≡ Gives e' → SameEnd a e e'
 same_by cap Nothing [] st st' e e' eq h h' = same_of Nothing [] [] [] [] st st' e e' (gives_is _ e h) (gives_is _ e' h') refl (λ x on. never' on)
-same_by cap (Const v) [] st st' e e' eq h h' = same_of (Const v) [] (v ∷ []) [] (v ∷ []) st st' e e' (gives_is _ e h) (gives_is _ e' h') refl (λ x on. never' on)
+same_by cap (Const v) [] st st' e e' eq h h' =
+    same_of (Const v) [] (v ∷ []) [] (v ∷ []) st st' e e' (gives_is _ e h) (gives_is _ e' h') refl (λ x on. never' on)
 same_by cap (Number op) vs st st' e e' eq h h' =
     let q = made_gives (number_type op) (operate op (map number_of vs)) st e h in
     let q' = made_gives (number_type op) (operate op (map number_of vs)) st' e' h' in
     same_of (Number op) vs (value_in (number_type op) q.0 ∷ []) vs (value_in (number_type op) q'.0 ∷ []) st st' e e' q.2 q'.2
     (ap (λ n. value_in (number_type op) n ∷ []) (same_number (operate op (map number_of vs)) q.0 q'.0 q.1 q'.1)) (λ x on. never' on)
-same_by cap Discard (v ∷ []) st st' e e' eq h h' = same_of Discard (v ∷ []) [] (v ∷ []) [] st st' e e' (gives_is _ e h) (gives_is _ e' h') refl (λ x on. never' on)
-same_by cap Choose (n ∷ b ∷ a ∷ []) st st' e e' eq h h' = same_of Choose (n ∷ b ∷ a ∷ []) (_ ∷ []) (n ∷ b ∷ a ∷ []) (_ ∷ []) st st' e e' (gives_is _ e h) (gives_is _ e' h') refl (λ x on. never' on)
+same_by cap Discard (v ∷ []) st st' e e' eq h h' =
+    same_of Discard (v ∷ []) [] (v ∷ []) [] st st' e e' (gives_is _ e h) (gives_is _ e' h') refl (λ x on. never' on)
+same_by cap Choose (n ∷ b ∷ a ∷ []) st st' e e' eq h h' =
+    same_of Choose (n ∷ b ∷ a ∷ []) (_ ∷ []) (n ∷ b ∷ a ∷ []) (_ ∷ []) st st' e e' (gives_is _ e h) (gives_is _ e' h') refl (λ x on. never' on)
 same_by cap (Get k) [] st st' e e' eq h h' =
-    same_of (Get k) [] (local_at st k ∷ []) [] (local_at st' k ∷ []) st st' e e' (gives_is _ e h) (gives_is _ e' h') (ap (λ z. z ∷ []) (eq (Local k) (eq-eqb k k refl))) (λ x on. never' on)
-same_by cap (Set k) (v ∷ []) st st' e e' eq h h' = same_of (Set k) (v ∷ []) [] (v ∷ []) [] (set_local k v st) (set_local k v st') e e' (gives_is _ e h) (gives_is _ e' h') refl (local_written k v st st')
-same_by cap (Tee k) (v ∷ []) st st' e e' eq h h' = same_of (Tee k) (v ∷ []) (v ∷ []) (v ∷ []) (v ∷ []) (set_local k v st) (set_local k v st') e e' (gives_is _ e h) (gives_is _ e' h') refl (local_written k v st st')
+    same_of (Get k) [] (local_at st k ∷ []) [] (local_at st' k ∷ []) st st' e e' (gives_is _ e h) (gives_is _ e' h')
+    (ap (λ z. z ∷ []) (eq (Local k) (eq-eqb k k refl))) (λ x on. never' on)
+same_by cap (Set k) (v ∷ []) st st' e e' eq h h' =
+    same_of (Set k) (v ∷ []) [] (v ∷ []) [] (set_local k v st) (set_local k v st') e e' (gives_is _ e h) (gives_is _ e' h') refl (local_written k v st st')
+same_by cap (Tee k) (v ∷ []) st st' e e' eq h h' =
+    same_of (Tee k) (v ∷ []) (v ∷ []) (v ∷ []) (v ∷ []) (set_local k v st) (set_local k v st') e e' (gives_is _ e h) (gives_is _ e' h') refl
+    (local_written k v st st')
 same_by cap (GetGlobal k) [] st st' e e' eq h h' =
-    same_of (GetGlobal k) [] (global_at st k ∷ []) [] (global_at st' k ∷ []) st st' e e' (gives_is _ e h) (gives_is _ e' h') (ap (λ z. z ∷ []) (eq (Global k) (eq-eqb k k refl))) (λ x on. never' on)
-same_by cap (SetGlobal k) (v ∷ []) st st' e e' eq h h' = same_of (SetGlobal k) (v ∷ []) [] (v ∷ []) [] (set_global k v st) (set_global k v st') e e' (gives_is _ e h) (gives_is _ e' h') refl (global_written k v st st')
+    same_of (GetGlobal k) [] (global_at st k ∷ []) [] (global_at st' k ∷ []) st st' e e' (gives_is _ e h) (gives_is _ e' h')
+    (ap (λ z. z ∷ []) (eq (Global k) (eq-eqb k k refl))) (λ x on. never' on)
+same_by cap (SetGlobal k) (v ∷ []) st st' e e' eq h h' =
+    same_of (SetGlobal k) (v ∷ []) [] (v ∷ []) [] (set_global k v st) (set_global k v st') e e' (gives_is _ e h) (gives_is _ e' h') refl
+    (global_written k v st st')
 same_by cap (Read access sg) (a ∷ []) st st' e e' eq h h' =
     let at = number_of a + access.offset in
     let q = passed _ _ _ _ e h in
     let q' = passed _ _ _ _ e' h' in
-    same_of (Read access sg) (a ∷ []) (value_in access.kind (widened sg (8 * access.count) 64 (number_from (bytes_at at access.count st.state.bytes))) ∷ []) (a ∷ [])
+    same_of (Read access sg) (a ∷ []) (value_in access.kind (widened sg (8 * access.count) 64 (number_from (bytes_at at access.count st.state.bytes))) ∷ [])
+    (a ∷ [])
     (value_in access.kind (widened sg (8 * access.count) 64 (number_from (bytes_at at access.count st'.state.bytes))) ∷ []) st st' e e' q.1 q'.1
-    (ap (λ z. value_in access.kind (widened sg (8 * access.count) 64 (number_from z)) ∷ []) (bytes_same at access.count st.state.bytes st'.state.bytes (eq Mem refl))) (λ x on. never' on)
+    (ap (λ z. value_in access.kind (widened sg (8 * access.count) 64 (number_from z)) ∷ [])
+    (bytes_same at access.count st.state.bytes st'.state.bytes (eq Mem refl))) (λ x on. never' on)
 same_by cap (Write access) (v ∷ a ∷ []) st st' e e' eq h h' =
     let at = number_of a + access.offset in
     let these = bytes_of access.count (number_of v) in
     let q = passed _ _ _ _ e h in
     let q' = passed _ _ _ _ e' h' in
-    same_of (Write access) (v ∷ a ∷ []) [] (v ∷ a ∷ []) [] (with_bytes (written at these st.state.bytes) st) (with_bytes (written at these st'.state.bytes) st') e e' q.1 q'.1 refl
-    (bytes_written (written at these st.state.bytes) (written at these st'.state.bytes) st st' (written_same at these st.state.bytes st'.state.bytes (eq Mem refl)))
+    same_of (Write access) (v ∷ a ∷ []) [] (v ∷ a ∷ []) [] (with_bytes (written at these st.state.bytes) st)
+    (with_bytes (written at these st'.state.bytes) st') e e' q.1 q'.1 refl
+    (bytes_written (written at these st.state.bytes) (written at these st'.state.bytes) st st'
+    (written_same at these st.state.bytes st'.state.bytes (eq Mem refl)))
 same_by cap Pages [] st st' e e' eq h h' =
-    same_of Pages [] (value.I32 st.state.pages ∷ []) [] (value.I32 st'.state.pages ∷ []) st st' e e' (gives_is _ e h) (gives_is _ e' h') (ap (λ z. value.I32 z ∷ []) (eq Size refl)) (λ x on. never' on)
-same_by cap Grow (n ∷ []) st st' e e' eq h h' = go (nat_le (st.state.pages + number_of n) cap) (nat_le (st'.state.pages + number_of n) cap) (ap (λ z. nat_le (z + number_of n) cap) pages) h h'
+    same_of Pages [] (value.I32 st.state.pages ∷ []) [] (value.I32 st'.state.pages ∷ []) st st' e e' (gives_is _ e h) (gives_is _ e' h')
+    (ap (λ z. value.I32 z ∷ []) (eq Size refl)) (λ x on. never' on)
+same_by cap Grow (n ∷ []) st st' e e' eq h h' =
+    go (nat_le (st.state.pages + number_of n) cap) (nat_le (st'.state.pages + number_of n) cap) (ap (λ z. nat_le (z + number_of n) cap) pages) h h'
   where
     pages : st'.state.pages ≡ st.state.pages
     pages = eq Size refl
 
     go : (b b' : Bool) → b' ≡ b → grow_by b (number_of n) st ≡ Gives e → grow_by b' (number_of n) st' ≡ Gives e' → SameEnd Grow e e'
     go true true q h h' =
-        same_of Grow (n ∷ []) (value.I32 st.state.pages ∷ []) (n ∷ []) (value.I32 st'.state.pages ∷ []) (grown (number_of n) st) (grown (number_of n) st') e e' (gives_is _ e h) (gives_is _ e' h') (ap (λ z. value.I32 z ∷ []) pages)
+        same_of Grow (n ∷ []) (value.I32 st.state.pages ∷ []) (n ∷ []) (value.I32 st'.state.pages ∷ []) (grown (number_of n) st)
+        (grown (number_of n) st') e e' (gives_is _ e h) (gives_is _ e' h') (ap (λ z. value.I32 z ∷ []) pages)
         (size_written (grown (number_of n) st) (grown (number_of n) st') (ap (λ z. z + number_of n) pages))
-    go false false q h h' = same_of Grow (n ∷ []) (value.I32 4294967295 ∷ []) (n ∷ []) (value.I32 4294967295 ∷ []) st st' e e' (gives_is _ e h) (gives_is _ e' h') refl (size_written st st' pages)
+    go false false q h h' =
+        same_of Grow (n ∷ []) (value.I32 4294967295 ∷ []) (n ∷ []) (value.I32 4294967295 ∷ []) st st' e e' (gives_is _ e h) (gives_is _ e' h') refl
+        (size_written st st' pages)
     go true false q h h' = never' q
     go false true q h h' = never q
 same_by cap Copy (n ∷ from ∷ to ∷ []) st st' e e' eq h h' =
@@ -303,21 +335,26 @@ same_by cap Copy (n ∷ from ∷ to ∷ []) st st' e e' eq h h' =
     let these = bytes_at (number_of from) (number_of n) st.state.bytes in
     let these' = bytes_at (number_of from) (number_of n) st'.state.bytes in
     let same = bytes_same (number_of from) (number_of n) st.state.bytes st'.state.bytes (eq Mem refl) in
-    same_of Copy (n ∷ from ∷ to ∷ []) [] (n ∷ from ∷ to ∷ []) [] (with_bytes (written (number_of to) these st.state.bytes) st) (with_bytes (written (number_of to) these' st'.state.bytes) st') e e' q.1 q'.1 refl
+    same_of Copy (n ∷ from ∷ to ∷ []) [] (n ∷ from ∷ to ∷ []) [] (with_bytes (written (number_of to) these st.state.bytes) st)
+    (with_bytes (written (number_of to) these' st'.state.bytes) st') e e' q.1 q'.1 refl
     (bytes_written (written (number_of to) these st.state.bytes) (written (number_of to) these' st'.state.bytes) st st'
-    (subst (λ z. SameBytes (written (number_of to) these st.state.bytes) (written (number_of to) z st'.state.bytes)) (sym same) (written_same (number_of to) these st.state.bytes st'.state.bytes (eq Mem refl))))
+    (subst (λ z. SameBytes (written (number_of to) these st.state.bytes) (written (number_of to) z st'.state.bytes)) (sym same)
+    (written_same (number_of to) these st.state.bytes st'.state.bytes (eq Mem refl))))
 same_by cap Fill (n ∷ v ∷ to ∷ []) st st' e e' eq h h' =
     let at = number_of to in
     let these : List ℕ = replicate (number_of n) (number_of v % 256) in
     let q = passed _ _ _ _ e h in
     let q' = passed _ _ _ _ e' h' in
-    same_of Fill (n ∷ v ∷ to ∷ []) [] (n ∷ v ∷ to ∷ []) [] (with_bytes (written at these st.state.bytes) st) (with_bytes (written at these st'.state.bytes) st') e e' q.1 q'.1 refl
-    (bytes_written (written at these st.state.bytes) (written at these st'.state.bytes) st st' (written_same at these st.state.bytes st'.state.bytes (eq Mem refl)))
+    same_of Fill (n ∷ v ∷ to ∷ []) [] (n ∷ v ∷ to ∷ []) [] (with_bytes (written at these st.state.bytes) st)
+    (with_bytes (written at these st'.state.bytes) st') e e' q.1 q'.1 refl
+    (bytes_written (written at these st.state.bytes) (written at these st'.state.bytes) st st'
+    (written_same at these st.state.bytes st'.state.bytes (eq Mem refl)))
 same_by cap a vs st st' e e' eq h h' = stuck _ e h tt
 
 -- ---- that it goes on
 
-number_goes : (op : NumOp) (vs : List Value) → may_trap_in (Number op) ≡ false → length vs ≡ operands op → (n : ℕ) × (operate op (map number_of vs) ≡ Some (Makes n))
+number_goes : (op : NumOp) (vs : List Value) → may_trap_in (Number op) ≡ false → length vs ≡ operands op
+    → (n : ℕ) × (operate op (map number_of vs) ≡ Some (Makes n))
 number_goes (num.Eqz w) (a ∷ []) m l = (_, refl)
 number_goes (num.Rel w op) (b ∷ a ∷ []) m l = (_, refl)
 number_goes (num.Un w op) (a ∷ []) m l = (_, refl)
@@ -376,7 +413,8 @@ give_stops e why s q = stuck (Stops why s) e (sym q) tt
 traps_with : (a : Action) (r : Reason) (st : Store) (why : Stop) (s : State) → TrapsFor a r → Stops (Trap r) st.state ≡ Stops why s → TrapsWith a st why s
 traps_with a r st why s m q = record { reason = r; may = m; is = stops_why (Trap r) why st.state s q; kept = stops_is (Trap r) why st.state s q }
 
-if_stops : (b : Bool) (x : Effect) (a : Action) (r : Reason) (st : Store) (why : Stop) (s : State) → TrapsFor a r → (if b then Gives x else Stops (Trap r) st.state) ≡ Stops why s → TrapsWith a st why s
+if_stops : (b : Bool) (x : Effect) (a : Action) (r : Reason) (st : Store) (why : Stop) (s : State) → TrapsFor a r
+    → (if b then Gives x else Stops (Trap r) st.state) ≡ Stops why s → TrapsWith a st why s
 if_stops true x a r st why s m q = give_stops x why s q
 if_stops false x a r st why s m q = traps_with a r st why s m q
 
@@ -445,7 +483,8 @@ number_made num.ExtendU (a ∷ []) l e = cc
 number_made (num.Low op) (a ∷ []) l e = cc
 number_made op vs l e = omega arith
 
-pub stops_by : (cap : ℕ) (a : Action) (vs : List Value) (st : Store) (why : Stop) (s : State) → length vs ≡ takes_in a → act cap a vs st ≡ Stops why s → TrapsWith a st why s
+pub stops_by : (cap : ℕ) (a : Action) (vs : List Value) (st : Store) (why : Stop) (s : State) → length vs ≡ takes_in a → act cap a vs st ≡ Stops why s
+    → TrapsWith a st why s
 stops_by cap (Number op) vs st why s l q = go (operate op (map number_of vs)) refl q
   where
     go : (o : Option Made) → operate op (map number_of vs) ≡ o → made_by (number_type op) o st ≡ Stops why s → TrapsWith (Number op) st why s
@@ -474,7 +513,8 @@ both_give x y s' e e' q q' = ((λ d p. (e', q')), (λ why s p. give_stops e why 
 both_stop : (why : Stop) (s s' : State) → Follows (Stops why s) (Stops why s') s'
 both_stop why s s' = ((λ e q. stuck (Stops why s) e q tt), (λ why' t q. ap (λ z. Stops z s') (sym (stops_why why why' s t q))))
 
-follows_test : (b b' : Bool) (x x' : Effect) (why : Stop) (s s' : State) → b' ≡ b → Follows (if b then Gives x else Stops why s) (if b' then Gives x' else Stops why s') s'
+follows_test : (b b' : Bool) (x x' : Effect) (why : Stop) (s s' : State) → b' ≡ b
+    → Follows (if b then Gives x else Stops why s) (if b' then Gives x' else Stops why s') s'
 follows_test true true x x' why s s' e = both_give (Gives x) (Gives x') s' x x' refl refl
 follows_test false false x x' why s s' e = both_stop why s s'
 follows_test true false x x' why s s' e = never' e
@@ -496,48 +536,60 @@ length_bytes : (count n : ℕ) → length (bytes_of count n) ≡ count
 length_bytes zero n = refl
 length_bytes (suc count) n = ap suc (length_bytes count _)
 
-within_same : (at at' count count' pages pages' : ℕ) → at' ≡ at → count' ≡ count → pages' ≡ pages → is_within at' count' (65536 * pages') ≡ is_within at count (65536 * pages)
+within_same : (at at' count count' pages pages' : ℕ) → at' ≡ at → count' ≡ count → pages' ≡ pages
+    → is_within at' count' (65536 * pages') ≡ is_within at count (65536 * pages)
 within_same at at' count count' pages pages' a c p = rw (a, c, p) refl
 
-follow : (cap : ℕ) (a : Action) (vs vs' : List Value) (st st' : Store) → length vs ≡ takes_in a → length vs' ≡ length vs → ((k : ℕ) → traps_in a k → arg vs' k ≡ arg vs k) → ((x : Loc) → checks_in a x ≡ true → EqAt x st st')
+follow : (cap : ℕ) (a : Action) (vs vs' : List Value) (st st' : Store) → length vs ≡ takes_in a → length vs' ≡ length vs
+    → ((k : ℕ) → traps_in a k → arg vs' k ≡ arg vs k) → ((x : Loc) → checks_in a x ≡ true → EqAt x st st')
     → Follows (act cap a vs st) (act cap a vs' st') st'.state
 follow cap (Number op) vs vs' st st' l long ops checks = go (number_traps op) refl
   where
     go : (b : Bool) → number_traps op ≡ b → Follows (act cap (Number op) vs st) (act cap (Number op) vs' st') st'.state
-    go true on = subst (λ z. Follows (act cap (Number op) vs st) (act cap (Number op) z st') st'.state) (same_list vs vs' long (λ k. ops k on)) (follows_made (number_type op) (operate op (map number_of vs)) st st')
+    go true on =
+        subst (λ z. Follows (act cap (Number op) vs st) (act cap (Number op) z st') st'.state) (same_list vs vs' long (λ k. ops k on))
+        (follows_made (number_type op) (operate op (map number_of vs)) st st')
     go false off =
         let g = goes_by cap (Number op) vs st off l in
         let g' = goes_by cap (Number op) vs' st' off (long ∙ l) in
         both_give _ _ st'.state g.effect g'.effect g.is g'.is
 follow cap (Read access sg) (a ∷ []) (a' ∷ []) st st' l long ops checks =
     follows_test _ _ _ _ _ st.state st'.state
-    (within_same (number_of a + access.offset) (number_of a' + access.offset) access.count access.count st.state.pages st'.state.pages (ap (λ z. number_of z + access.offset) (ops 0 refl)) refl (checks Size refl))
+    (within_same (number_of a + access.offset) (number_of a' + access.offset) access.count access.count st.state.pages st'.state.pages
+    (ap (λ z. number_of z + access.offset) (ops 0 refl)) refl (checks Size refl))
 follow cap (Read access sg) vs vs' st st' l long ops checks = absurd (omega arith)
 follow cap (Write access) (v ∷ a ∷ []) (v' ∷ a' ∷ []) st st' l long ops checks =
     follows_test _ _ _ _ _ st.state st'.state
-    (within_same (number_of a + access.offset) (number_of a' + access.offset) (length (bytes_of access.count (number_of v))) (length (bytes_of access.count (number_of v'))) st.state.pages st'.state.pages
-    (ap (λ z. number_of z + access.offset) (ops 1 refl)) (length_bytes access.count (number_of v') ∙ sym (length_bytes access.count (number_of v))) (checks Size refl))
+    (within_same (number_of a + access.offset) (number_of a' + access.offset) (length (bytes_of access.count (number_of v)))
+    (length (bytes_of access.count (number_of v'))) st.state.pages st'.state.pages
+    (ap (λ z. number_of z + access.offset) (ops 1 refl)) (length_bytes access.count (number_of v') ∙ sym (length_bytes access.count (number_of v)))
+    (checks Size refl))
 follow cap (Write access) vs vs' st st' l long ops checks = absurd (omega arith)
 follow cap Copy (n ∷ from ∷ to ∷ []) (n' ∷ from' ∷ to' ∷ []) st st' l long ops checks =
     follows_test _ _ _ _ _ st.state st'.state
     (ap₂ {A = Bool} {B = Bool} (λ x y. x && y)
-    (within_same (number_of from) (number_of from') (number_of n) (number_of n') st.state.pages st'.state.pages (ap number_of (ops 1 tt)) (ap number_of (ops 0 tt)) (checks Size refl))
-    (within_same (number_of to) (number_of to') (number_of n) (number_of n') st.state.pages st'.state.pages (ap number_of (ops 2 tt)) (ap number_of (ops 0 tt)) (checks Size refl)))
+    (within_same (number_of from) (number_of from') (number_of n) (number_of n') st.state.pages st'.state.pages (ap number_of (ops 1 tt))
+    (ap number_of (ops 0 tt)) (checks Size refl))
+    (within_same (number_of to) (number_of to') (number_of n) (number_of n') st.state.pages st'.state.pages (ap number_of (ops 2 tt))
+    (ap number_of (ops 0 tt)) (checks Size refl)))
 follow cap Copy vs vs' st st' l long ops checks = absurd (omega arith)
 follow cap Fill (n ∷ v ∷ to ∷ []) (n' ∷ v' ∷ to' ∷ []) st st' l long ops checks =
     let these : List ℕ = replicate (number_of n) (number_of v % 256) in
     let these' : List ℕ = replicate (number_of n') (number_of v' % 256) in
     follows_test _ _ _ _ _ st.state st'.state
     (within_same (number_of to) (number_of to') (length these) (length these') st.state.pages st'.state.pages (ap number_of (ops 2 tt))
-    (length-replicate (number_of n') (number_of v' % 256) ∙ ap number_of (ops 0 tt) ∙ sym (length-replicate (number_of n) (number_of v % 256))) (checks Size refl))
+    (length-replicate (number_of n') (number_of v' % 256) ∙ ap number_of (ops 0 tt) ∙ sym (length-replicate (number_of n) (number_of v % 256)))
+    (checks Size refl))
 follow cap Fill vs vs' st st' l long ops checks = absurd (omega arith)
 follow cap a vs vs' st st' l long ops checks =
     let g = goes_by cap a vs st refl l in
     let g' = goes_by cap a vs' st' refl (long ∙ l) in
     both_give _ _ st'.state g.effect g'.effect g.is g'.is
 
-pub comes_by : (cap : ℕ) (a : Action) (vs vs' : List Value) (st st' : Store) (e : Effect) → SameCause a vs vs' st st' → act cap a vs st ≡ Gives e → GoesOn cap a vs' st'
-comes_by cap a vs vs' st st' e c q = let f = (follow cap a vs vs' st st' (does_by cap a vs st e q).took c.long c.operands c.checks).0 e q in record { effect = f.0; is = f.1 }
+pub comes_by : (cap : ℕ) (a : Action) (vs vs' : List Value) (st st' : Store) (e : Effect) → SameCause a vs vs' st st' → act cap a vs st ≡ Gives e
+    → GoesOn cap a vs' st'
+comes_by cap a vs vs' st st' e c q =
+    let f = (follow cap a vs vs' st st' (does_by cap a vs st e q).took c.long c.operands c.checks).0 e q in record { effect = f.0; is = f.1 }
 
 pub action_law : (cap : ℕ) (a : Action) → ActionLaw cap a
 action_law cap a = record {

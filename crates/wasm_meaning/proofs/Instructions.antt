@@ -3,11 +3,11 @@ use Rattle.std.proofs.Common.{◌≡◌, ℕ, suc, List, [], ◌∷◌, Bool, tr
 use Rattle.wasm_types.specs.declared.module.Value.{Value}
 use Rattle.wasm_types.specs.declared.module.FuncType.{FuncType}
 use Rattle.wasm_types.specs.declared.instr.Instr.{Instr}
-use Rattle.wasm_types.specs.Actions.{callees, Callee, Callees, Own, Through, Form, NoForm, Plain, CallOf, CallBy, form_of, own_task, table_task, task_by, Task, NoTask, Asks, Acts, task_of, takes_of, takes}
+use Rattle.wasm_types.specs.Actions.{callees, Action, Callee, Callees, Own, Through, Form, NoForm, Plain, CallOf, CallBy, form_of, own_task, table_task, task_by, Task, NoTask, Asks, Acts, task_of, takes_of, takes}
 use Rattle.wasm_meaning.specs.State.{Store, State}
 use Rattle.wasm_meaning.specs.Stops.{Stuck}
 use Rattle.wasm_meaning.specs.Operations.{number_of}
-use Rattle.wasm_meaning.specs.Effects.{Fixed, Effect, Answer, Gives, Stops, Calls, Found, Finds, Fails, found, call_found, perform, do_task, effect}
+use Rattle.wasm_meaning.specs.Effects.{Fixed, Effect, Answer, Gives, Stops, Calls, Found, Finds, Fails, found, call_found, perform, do_task, act, effect}
 use Rattle.wasm_meaning.specs.Laws.{TableAnswers, CalleeAnswers, CallLaw, InstructionLaw}
 use Rattle.wasm_meaning.proofs.ActionLaws.{stuck, if_true, action_law}
 use Rattle.wasm_meaning.proofs.HostLaws.{host_law}
@@ -44,16 +44,25 @@ eq_of : (x y : ℕ) → nat_eq x y ≡ true → x ≡ y
 eq_of x y e = grind arith
 
 module _ (Z : Fixed) (c : Calls) (op : Instr) (n r : ℕ) where
-  asks_is : (g : Callee) → task_of (callees Z.m) op ≡ Asks g n r → (vs : List Value) (st : Store) → length vs ≡ takes (callees Z.m) op → effect Z c op vs st ≡ perform Z c g vs st
+  pub asks_is : (g : Callee) → task_of (callees Z.m) op ≡ Asks g n r → (vs : List Value) (st : Store) → length vs ≡ takes (callees Z.m) op
+      → effect Z c op vs st ≡ perform Z c g vs st
   asks_is g is vs st l = ap (λ z. do_task Z c z vs st) is ∙ if_true (nat_eq (length vs) n) _ _ (nat_on (length vs) n (l ∙ ap takes_of is))
 
-  callee_answers : (g : Callee) → task_of (callees Z.m) op ≡ Asks g n r → (vs : List Value) (st : Store) → length vs ≡ takes (callees Z.m) op → CalleeAnswers Z c g vs st (effect Z c op vs st)
+  callee_answers : (g : Callee) → task_of (callees Z.m) op ≡ Asks g n r → (vs : List Value) (st : Store) → length vs ≡ takes (callees Z.m) op
+      → CalleeAnswers Z c g vs st (effect Z c op vs st)
   callee_answers (Own f) is vs st l = asks_is (Own f) is vs st l
-  callee_answers (Through t k) is [] st l = let m : n ≡ suc k = subst Through_more is (more_by (callees Z.m) (form_of op)) in let e : 0 ≡ n = l ∙ ap takes_of is in absurd (omega arith)
+  callee_answers (Through t k) is [] st l =
+      let m : n ≡ suc k = subst Through_more is (more_by (callees Z.m) (form_of op)) in let e : 0 ≡ n = l ∙ ap takes_of is in absurd (omega arith)
   callee_answers (Through t k) is (i ∷ args) st l =
       let m : n ≡ suc k = subst Through_more is (more_by (callees Z.m) (form_of op)) in
-      let e : suc (length args) ≡ n = l ∙ ap takes_of is in
-      (i, args, refl, omega arith, subst (TableAnswers c (found Z t (number_of i)) args st) (sym (asks_is (Through t k) is (i ∷ args) st l)) (answers_found c (found Z t (number_of i)) args st))
+      let e : suc (length args) ≡ n = l ∙ ap takes_of is in (
+        i,
+        args,
+        refl,
+        omega arith,
+        subst (TableAnswers c (found Z t (number_of i)) args st) (sym (asks_is (Through t k) is (i ∷ args) st l))
+            (answers_found c (found Z t (number_of i)) args st),
+      )
 
   asked_long : (b : Bool) (x : Answer) (s : State) (e : Effect) → (if b then x else Stops Stuck s) ≡ Gives e → b ≡ true
   asked_long true x s e q = refl
@@ -62,8 +71,16 @@ module _ (Z : Fixed) (c : Calls) (op : Instr) (n r : ℕ) where
   pub call_law : (g : Callee) → task_of (callees Z.m) op ≡ Asks g n r → CallLaw Z c op g
   call_law g is = record {
     answers = λ vs st l. callee_answers g is vs st l;
-    gives = λ vs st e q. eq_of (length vs) n (asked_long (nat_eq (length vs) n) (perform Z c g vs st) st.state e (subst (λ z. do_task Z c z vs st ≡ Gives e) is q)) ∙ ap takes_of (sym is);
+    gives = λ vs st e q. eq_of (length vs) n
+        (asked_long (nat_eq (length vs) n) (perform Z c g vs st) st.state e (subst (λ z. do_task Z c z vs st ≡ Gives e) is q)) ∙ ap takes_of (sym is);
   }
+
+-- an instruction that calls nothing does its action, and one without a task gets stuck
+pub acts_is : (Z : Fixed) (c : Calls) (op : Instr) (a : Action) → task_of (callees Z.m) op ≡ Acts a → (vs : List Value) (st : Store) → effect Z c op vs st ≡ act Z.cap a vs st
+acts_is Z c op a is vs st = ap (λ z. do_task Z c z vs st) is
+
+pub stuck_is : (Z : Fixed) (c : Calls) (op : Instr) → task_of (callees Z.m) op ≡ NoTask → (vs : List Value) (st : Store) → effect Z c op vs st ≡ Stops Stuck st.state
+stuck_is Z c op is vs st = ap (λ z. do_task Z c z vs st) is
 
 pub instruction_law : InstructionLaw
 instruction_law = record { action = action_law; host = host_law; call = λ Z c op g n r is. call_law Z c op n r g is }

@@ -49,11 +49,14 @@ pub record Appended (m : Module) (types : List ℕ) (bodies : List Body) (export
   pub fits : Fits (appended m types bodies exports) s
   pub runs : (depth : ℕ) (ls : List ℕ) (code : Marked) → AllOld m code → (h : Here)
       → (let Z = fixed m s in let Z' = fixed (appended m types bodies exports) s in run Z' (nested Z' depth) ls code h ≡ run Z (nested Z depth) ls code h)
-  pub invocations : (f : ℕ) → IsFunction m f → (depth : ℕ) (watched : ℕ → Bool) (args : List Value) → invocation (appended m types bodies exports) depth watched f args s ≡ invocation m depth watched f args s
+  pub invocations : (f : ℕ) → IsFunction m f → (depth : ℕ) (watched : ℕ → Bool) (args : List Value)
+      → invocation (appended m types bodies exports) depth watched f args s ≡ invocation m depth watched f args s
   pub ends : (f : ℕ) → IsFunction m f → (i : ℕ) (args : List Value) (ending : Ending) (final : State) (events : List Event)
       → Ends (appended m types bodies exports) f i args s ending final events ↔ Ends m f i args s ending final events
   pub outcomes : (f : ℕ) → IsFunction m f → (i : ℕ) (args : List Value) (budget : ℕ) (ended : Ended) (final : State) (events : List Event)
       → HasOutcome (appended m types bodies exports) f i args s budget ended final events ↔ HasOutcome m f i args s budget ended final events
 
 abbrev pub AppendedKeep : Type 0
-AppendedKeep = (m : Module) → IsValid m → (types : List ℕ) (bodies : List Body) (exports : List Export) → AreFunctions exports → (s : State) → Fits m s → Appended m types bodies exports s
+AppendedKeep =
+    (m : Module) → IsValid m → (types : List ℕ) (bodies : List Body) (exports : List Export) → AreFunctions exports → (s : State) → Fits m s
+    → Appended m types bodies exports s

@@ -75,11 +75,13 @@ pub record SameCause (a : Action) (vs vs' : List Value) (st st' : Store) : Type 
 -- where nothing can make it trap; and that from an equal cause it goes on as before, or traps for the same reason.
 pub record ActionLaw (cap : ℕ) (a : Action) : Type 0 where
   pub does : (vs : List Value) (st : Store) (e : Effect) → act cap a vs st ≡ Gives e → Does a vs st e
-  pub same : (vs : List Value) (st st' : Store) (e e' : Effect) → ((x : Loc) → reads_in a x ≡ true → EqAt x st st') → act cap a vs st ≡ Gives e → act cap a vs st' ≡ Gives e' → SameEnd a e e'
+  pub same : (vs : List Value) (st st' : Store) (e e' : Effect) → ((x : Loc) → reads_in a x ≡ true → EqAt x st st') → act cap a vs st ≡ Gives e
+      → act cap a vs st' ≡ Gives e' → SameEnd a e e'
   pub total : (vs : List Value) (st : Store) → may_trap_in a ≡ false → length vs ≡ takes_in a → GoesOn cap a vs st
   pub comes : (vs vs' : List Value) (st st' : Store) (e : Effect) → SameCause a vs vs' st st' → act cap a vs st ≡ Gives e → GoesOn cap a vs' st'
   pub stops : (vs : List Value) (st : Store) (why : Stop) (s : State) → length vs ≡ takes_in a → act cap a vs st ≡ Stops why s → TrapsWith a st why s
-  pub stops_too : (vs vs' : List Value) (st st' : Store) (why : Stop) (s : State) → length vs ≡ takes_in a → SameCause a vs vs' st st' → act cap a vs st ≡ Stops why s → act cap a vs' st' ≡ Stops why st'.state
+  pub stops_too : (vs vs' : List Value) (st st' : Store) (why : Stop) (s : State) → length vs ≡ takes_in a → SameCause a vs vs' st st'
+      → act cap a vs st ≡ Stops why s → act cap a vs' st' ≡ Stops why st'.state
 
 -- ---- calls of imported functions
 
@@ -105,8 +107,10 @@ pub record HostStops (H : HostFunc) (vs : List Value) (st' : Store) (why : Stop)
 -- What a call of an imported function does, and that it does the same from a store that is equal where it reads.
 pub record HostLaw (H : HostFunc) : Type 0 where
   pub does : (vs : List Value) (st : Store) (e : Effect) → call_host H vs st ≡ Gives e → HostDoes H st e
-  pub same : (vs : List Value) (st st' : Store) (e : Effect) → ((x : Loc) → host_reads H x ≡ true → EqAt x st st') → call_host H vs st ≡ Gives e → HostSame H vs st' e
-  pub stops : (vs : List Value) (st st' : Store) (why : Stop) (s : State) → ((x : Loc) → host_reads H x ≡ true → EqAt x st st') → call_host H vs st ≡ Stops why s → HostStops H vs st' why
+  pub same : (vs : List Value) (st st' : Store) (e : Effect) → ((x : Loc) → host_reads H x ≡ true → EqAt x st st') → call_host H vs st ≡ Gives e
+      → HostSame H vs st' e
+  pub stops : (vs : List Value) (st st' : Store) (why : Stop) (s : State) → ((x : Loc) → host_reads H x ≡ true → EqAt x st st')
+      → call_host H vs st ≡ Stops why s → HostStops H vs st' why
 
 -- ---- instructions that call
 
@@ -118,7 +122,8 @@ TableAnswers c (Fails reason) args st a = a ≡ Stops (Trap reason) st.state
 -- what a call of a callee answers is what the function called does, with its reason where it stops, and its turns
 abbrev pub CalleeAnswers : Fixed → Calls → Callee → List Value → Store → Answer → Type 0
 CalleeAnswers Z c (Own f) vs st a = a ≡ c f vs st
-CalleeAnswers Z c (Through t n) vs st a = (i : Value) × (args : List Value) × (vs ≡ i ∷ args) × (length args ≡ n) × TableAnswers c (found Z t (number_of i)) args st a
+CalleeAnswers Z c (Through t n) vs st a =
+    (i : Value) × (args : List Value) × (vs ≡ i ∷ args) × (length args ≡ n) × TableAnswers c (found Z t (number_of i)) args st a
 
 -- An instruction that calls, with so many operands as it takes: it answers what the callee does, so what is known of calls is known of it.
 pub record CallLaw (Z : Fixed) (c : Calls) (op : Instr) (g : Callee) : Type 0 where

@@ -12,3 +12,5 @@ pub mod Invoke
 pub mod Laws
 pub mod Longer
 pub mod Appended
+pub mod Kept
+pub mod Start
