@@ -1,5 +1,5 @@
 -- Operations, runs and calls on values.
-use Rattle.std.proofs.Common.{◌≡◌, ℕ, ℤ, pos, negsuc, List, [], ◌∷◌, true, Option, Some, None, nat_eq, refl}
+use Rattle.std.proofs.Common.{◌≡◌, ℕ, ℤ, pos, negsuc, List, [], ◌∷◌, map, true, Option, Some, None, nat_eq, refl}
 use Rattle.wasm_types.specs.declared.module.Value.{Value}
 use Rattle.wasm_types.specs.declared.module.Value.TheVariants.{I32, I64}
 use Rattle.wasm_types.specs.declared.module.ValType.TheVariants as type
@@ -17,7 +17,9 @@ use Rattle.wasm_types.specs.declared.ops.LoadOp.TheVariants as load
 use Rattle.wasm_types.specs.declared.ops.StoreOp.TheVariants as store
 use Rattle.wasm_types.specs.declared.ops.Width.TheVariants.{W32, W64}
 use Rattle.wasm_types.specs.declared.ops.UnOp.TheVariants as un
+use Rattle.wasm_types.specs.declared.ops.BinOp.{BinOp}
 use Rattle.wasm_types.specs.declared.ops.BinOp.TheVariants as bin
+use Rattle.wasm_types.specs.declared.ops.RelOp.{RelOp}
 use Rattle.wasm_types.specs.declared.ops.RelOp.TheVariants as rel
 use Rattle.wasm_types.specs.declared.ops.LowOp.TheVariants as low
 use Rattle.wasm_types.specs.declared.ops.NumOp.{NumOp}
@@ -66,6 +68,13 @@ quotient = refl
 rest : got (num.Bin W32 bin.RemS) (2 ∷ 4294967289 ∷ []) ≡ Value_of (I32 4294967295)
 rest = refl
 
+-- the least number by another divisor
+least_half : got (num.Bin W32 bin.DivS) (2 ∷ 2147483648 ∷ []) ≡ Value_of (I32 3221225472)
+least_half = refl
+
+least_64 : got (num.Bin W64 bin.DivS) (18446744073709551615 ∷ 9223372036854775808 ∷ []) ≡ Trap_of Overflow
+least_64 = refl
+
 by_nothing : got (num.Bin W64 bin.RemU) (0 ∷ 5 ∷ []) ≡ Trap_of DivideByZero
 by_nothing = refl
 
@@ -106,6 +115,41 @@ trailing = refl
 ones : got (num.Un W32 un.Popcnt) (255 ∷ []) ≡ Value_of (I32 8)
 unfolding lib.Count.ones
 ones = refl
+
+trailing_eight : got (num.Un W32 un.Ctz) (8 ∷ []) ≡ Value_of (I32 3)
+unfolding lib.Count.count_trailing_zeros
+trailing_eight = refl
+
+leading_one : got (num.Un W64 un.Clz) (1 ∷ []) ≡ Value_of (I64 63)
+unfolding lib.Count.count_leading_zeros
+leading_one = refl
+
+-- -7 and 3 by each operation
+abbrev by_each : List BinOp → List Got
+by_each ops = map (λ op. got (num.Bin W32 op) (3 ∷ 4294967289 ∷ [])) ops
+
+abbrev values : List ℕ → List Got
+values ns = map (λ n. Value_of (I32 n)) ns
+
+sums : by_each (bin.Add ∷ bin.Sub ∷ bin.Mul ∷ bin.DivS ∷ bin.DivU ∷ bin.RemS ∷ bin.RemU ∷ [])
+    ≡ values (4294967292 ∷ 4294967286 ∷ 4294967275 ∷ 4294967294 ∷ 1431655763 ∷ 4294967295 ∷ 0 ∷ [])
+sums = refl
+
+bits : by_each (bin.And ∷ bin.Or ∷ bin.Xor ∷ []) ≡ values (1 ∷ 4294967291 ∷ 4294967290 ∷ [])
+bits = refl
+
+shifts : by_each (bin.Shl ∷ bin.ShrS ∷ bin.ShrU ∷ bin.Rotl ∷ bin.Rotr ∷ []) ≡ values (4294967240 ∷ 4294967295 ∷ 536870911 ∷ 4294967247 ∷ 1073741823 ∷ [])
+shifts = refl
+
+-- how -7 and 3 are related, and 3 and 3
+abbrev relations : List RelOp
+relations = rel.Eq ∷ rel.Ne ∷ rel.LtS ∷ rel.LtU ∷ rel.GtS ∷ rel.GtU ∷ rel.LeS ∷ rel.LeU ∷ rel.GeS ∷ rel.GeU ∷ []
+
+compared : map (λ op. got (num.Rel W32 op) (3 ∷ 4294967289 ∷ [])) relations ≡ values (0 ∷ 1 ∷ 1 ∷ 0 ∷ 0 ∷ 1 ∷ 1 ∷ 0 ∷ 0 ∷ 1 ∷ [])
+compared = refl
+
+compared_same : map (λ op. got (num.Rel W32 op) (3 ∷ 3 ∷ [])) relations ≡ values (1 ∷ 0 ∷ 0 ∷ 0 ∷ 0 ∷ 0 ∷ 1 ∷ 1 ∷ 1 ∷ 1 ∷ [])
+compared_same = refl
 
 -- -1 is less than 0, and the greatest number is not
 less : got (num.Rel W64 rel.LtS) (0 ∷ 18446744073709551615 ∷ []) ≡ Value_of (I32 1)
@@ -370,9 +414,9 @@ counts : ended (counted 3).answer ≡ Results (I32 4 ∷ []) 3
 unfolding onto
 counts = refl
 
-sums : (counted 3).events ≡ Take (I32 3 ∷ I32 1 ∷ []) ∷ Leave (I32 4 ∷ []) ∷ []
+seen_at_sum : (counted 3).events ≡ Take (I32 3 ∷ I32 1 ∷ []) ∷ Leave (I32 4 ∷ []) ∷ []
 unfolding onto
-sums = refl
+seen_at_sum = refl
 
 too_deep : ended (counted 2).answer ≡ Stop_of Spent 2
 unfolding onto
