@@ -1,15 +1,13 @@
 -- Flat code: what its instructions take and leave, and its list, one instruction after another.
-use Rattle.std.proofs.Common.{◌≡◌, ℕ, zero, suc, ◌+◌, ◌≤◌, ◌<◌, List, [], ◌∷◌, Bool, true, false, drop, length, get_or, refl, ap, ◌∙◌, subst, arith}
-use Rattle.std.specs.Prelude.{◌↔◌, All, IsTrue, MatchBool}
-use Rattle.std.specs.List.{AllWithin, HoldsAt}
-use Rattle.std.proofs.lemmas.List.Elements.{All-nil, All-cons, All-head, All-tail, All-from_all_within}
-use Rattle.std.proofs.lemmas.Iterator.Search.{true_from_All}
+use Rattle.std.proofs.Common.{◌≡◌, ℕ, zero, suc, ◌+◌, ◌≤◌, ◌<◌, List, [], ◌∷◌, Bool, drop, length, get_or, refl, ap, ◌∙◌, subst, arith}
+use Rattle.std.specs.Prelude.{All}
+use Rattle.std.proofs.lemmas.List.Elements.{All-nil, All-cons, All-head, All-tail}
 use Rattle.wasm_types.specs.declared.instr.Instr.{Instr, Block', Loop', If', Drop, LocalGet, I32Const, Num}
 use Rattle.wasm_types.specs.declared.ops.NumOp.TheVariants.{Bin}
 use Rattle.wasm_types.specs.declared.ops.Width.TheVariants.{W32}
 use Rattle.wasm_types.specs.declared.ops.BinOp.TheVariants.{Add}
 use Rattle.wasm_types.specs.declared.place.Loc.{Loc}
-use Rattle.wasm_types.specs.Code.{Code, done, one, block, repeat, branch, onto, code_of_row, code_of, count}
+use Rattle.wasm_types.specs.Code.{Code, one, onto, code_of_row, code_of, count}
 use Rattle.wasm_types.proofs.CodeLemmas.{code-next}
 use Rattle.wasm_types.specs.Marked.{Marked, Do, leaf}
 use Rattle.wasm_types.specs.Small.{IsSmallInstr, IsSmallCode}

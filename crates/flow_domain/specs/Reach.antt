@@ -1,4 +1,4 @@
--- What the functions of a module write, by the functions that they reach (docs/ANALYSES.md, "Locations").
+-- What the functions of a module write, by the functions that they reach (docs/ANALYSES.md, "What functions write").
 use Rattle.std.specs.Prelude.{◌≡◌, ℕ, ◌⊎◌, true, Some}
 use Rattle.wasm_types.specs.declared.module.Module.{Module}
 use Rattle.wasm_types.specs.declared.instr.Instr.{Instr}
@@ -29,6 +29,7 @@ pub data CallsFunc (m : Module) (f g : ℕ) : Type 0 where
   by_number : (F : Func) (op : Instr) → func_of m f ≡ Some F → LiveIn op (text F) → form_of op ≡ CallOf g → CallsFunc m f g
   by_table : (F : Func) (op : Instr) (t : ℕ) → func_of m f ≡ Some F → LiveIn op (text F) → form_of op ≡ CallBy t → Target m t g → CallsFunc m f g
 
+-- by calls, one after another
 pub data Reached (m : Module) : ℕ → ℕ → Type 0 where
   itself : {f : ℕ} → Reached m f f
   after_call : {f h : ℕ} (g : ℕ) → CallsFunc m f g → Reached m g h → Reached m f h

@@ -19,6 +19,7 @@ use Rattle.wasm_types.specs.Reaching.{Writes, Path, Enters}
 use Rattle.wasm_types.specs.Shadow.{InShadow}
 use Rattle.flow_domain.specs.Bounds.{Bounds, reads, checks, called, may_trap, traps_by, written_by}
 
+-- what an activation may be asked for: its results, a location at its end, and that it returns at all
 pub data Output : Type 0 where
   Ret : Output
   Final : (x : Loc) → Output
@@ -59,6 +60,7 @@ pub data Item : Type 0 where
   Place : (a : Node) (x : Loc) → Item
   Decider : (p : ℕ) → Item
 
+-- the operands, and the locations, that an output of an instruction depends on where it calls nothing
 abbrev pub needs_operand : Bounds → Instr → Output → ℕ → Type 0
 needs_operand B op Ret k = Unit {0}
 needs_operand B op (Final x) k = Unit {0}
@@ -69,38 +71,47 @@ needs_place B op Ret x = reads B op x ≡ true
 needs_place B op (Final y) x = reads B op x ≡ true
 needs_place B op Done x = checks B op x ≡ true
 
+-- What output o of a body leads to, with these rows for the functions that are called.
 pub data Led (B : Bounds) (R : CallRows) (S : Sites) (ends : List EndAt) (o : Output) : Item → Type 0 where
+  -- where the output is the result or a location at the end: what makes it at the body's exit
   result : o ≡ Ret → Led B R S ends o (Makes Exit Ret)
   final : {x : Loc} → o ≡ Final x → Led B R S ends o (Place Exit x)
+  -- where it is completion: each branch back to a loop, and each instruction that may trap, a call being one
   done_branch : {p : ℕ} (l : ℕ) (s : Site) → o ≡ Done → IsSite S p s → Branches s.head l → loop_of s.around l ≡ true → Led B R S ends o (Decider p)
   done_trap : {p : ℕ} (op : Instr) (s : Site) → o ≡ Done → IsSite S p s → s.head ≡ DoHead op → may_trap B op ≡ true → Led B R S ends o (Makes (At p) Done)
   done_unreachable : {p : ℕ} (s : Site) → o ≡ Done → IsSite S p s → s.head ≡ UnreachableHead → Led B R S ends o (Makes (At p) Done)
+  -- a location at a point: what writes it on the way there
   writer : {x : Loc} {d : ℕ} (a : Node) → Led B R S ends o (Place a x) → Writes (written_by B S) x (At d) → Path (written_by B S) S x (At d) a
       → Led B R S ends o (Makes (At d) (Final x))
+  -- what an instruction makes that calls nothing: the makers of its operands, and what it reads; for its completion what decides whether it traps
   operand : {n : Node} (p k : ℕ) (out : Output) (s : Site) (op : Instr) → Led B R S ends o (Makes (At p) out) → IsSite S p s → s.head ≡ DoHead op
       → called B op ≡ None → needs_operand B op out k → slice_get (take (takes (callees B.m) op) s.names) k ≡ Some n → Led B R S ends o (Makes n Ret)
   reading : {p : ℕ} {x : Loc} (out : Output) (s : Site) (op : Instr) → Led B R S ends o (Makes (At p) out) → IsSite S p s → s.head ≡ DoHead op
       → needs_place B op out x → Led B R S ends o (Place (At p) x)
+  -- what a call makes: the inputs that the callee's row has for it, as operands of the call, and as locations at it
   argument : {n : Node} (p k : ℕ) (g : Callee) (out : Output) (s : Site) (op : Instr) → Led B R S ends o (Makes (At p) out) → IsSite S p s
       → s.head ≡ DoHead op → called B op ≡ Some g → R g out (Local k) → slice_get (reverse (take (takes (callees B.m) op) s.names)) k ≡ Some n
       → Led B R S ends o (Makes n Ret)
   place : {p : ℕ} {x : Loc} (g : Callee) (out : Output) (s : Site) (op : Instr) → Led B R S ends o (Makes (At p) out) → IsSite S p s → s.head ≡ DoHead op
       → called B op ≡ Some g → R g out x → is_outer x ≡ true → Led B R S ends o (Place (At p) x)
+  -- the value of a block, loop or if, or of the body: what branches carry to its join, and what its live ends leave there
   carrying : {n : Node} (p l k : ℕ) (s : Site) → Led B R S ends o (Makes (join_of s.around l) Ret) → IsSite S p s → Branches s.head l
       → slice_get (take (carried (arities s.around) l) (carry_names s.head s.names)) k ≡ Some n → Led B R S ends o (Makes n Ret)
   ending : {n : Node} (e : EndAt) (k : ℕ) → Led B R S ends o (Makes e.owner Ret) → Among ends e → slice_get (take e.count e.names) k ≡ Some n
       → Led B R S ends o (Makes n Ret)
+  -- what decides whether a node that is led to runs, and the operands of the deciders
   deciding : {p : ℕ} (n : Node) (out : Output) → Led B R S ends o (Makes n out) → InShadow S p n → Led B R S ends o (Decider p)
   deciding_again : {p : ℕ} (q : ℕ) → Led B R S ends o (Decider q) → InShadow S p (At q) → Led B R S ends o (Decider p)
   condition : {n : Node} (p k : ℕ) (s : Site) → Led B R S ends o (Decider p) → IsSite S p s
       → slice_get (take (operand_count (callees B.m) s.head) s.names) k ≡ Some n → Led B R S ends o (Makes n Ret)
 
--- a location is needed at a point: it is led to at a point that nothing written before reaches
+-- a location is needed at a point: from there it comes unwritten to a point where it is led to
 pub record Needed (B : Bounds) (R : CallRows) (S : Sites) (ends : List EndAt) (o : Output) (a : Node) (x : Loc) : Type 0 where
   pub at : Node
   pub enters : Enters (written_by B S) S x a at
   pub led : Led B R S ends o (Place at x)
 
+-- the sites and the live ends of a function that is called
 abbrev pub func_sites : Bounds → Func → Sites
 func_sites B F = body_sites (callees B.m) F.results (text F)
 
@@ -117,11 +128,12 @@ abbrev pub HostUses : HostFunc → Loc → Type 0
 HostUses H (Local k) = k < length H.kind.params
 HostUses H x = host_reads H x ≡ true
 
--- the row of a location that it writes, or of another
+-- of a location that it writes, or of another, which stays as it was
 abbrev pub HostFinal : Bool → HostFunc → Loc → Loc → Type 0
 HostFinal true H y x = HostUses H x
 HostFinal false H y x = (is_outer y ≡ true) × (x ≡ y)
 
+-- the rows of an import
 abbrev pub HostRow : HostFunc → Output → Loc → Type 0
 HostRow H Ret x = HostUses H x
 HostRow H (Final y) x = HostFinal (host_writes H y) H y x

@@ -124,34 +124,8 @@ same_laps Z F (suc n) ls body h =
     ((below Z F n).lap ls (bare body)) (alike_run Z (below Z F n) (same_laps Z F n) body (0 ∷ ls) h) (λ h1. same_laps Z F n ls body h1)
 
 bare_leaf : (m : Bool) (op : Instr) (rest : Marked) → bare (leaf m op rest) ≡ leaf false op (bare rest)
-bare_leaf m instr.Unreachable rest = refl
-bare_leaf m instr.Nop rest = refl
-bare_leaf m instr.Drop rest = refl
-bare_leaf m instr.Select rest = refl
 bare_leaf m instr.Return rest = refl
-bare_leaf m (instr.Block' kind k inner) rest = refl
-bare_leaf m (instr.Loop' kind k inner) rest = refl
-bare_leaf m (instr.If' kind k first n second) rest = refl
-bare_leaf m (instr.Br l) rest = refl
-bare_leaf m (instr.BrIf l) rest = refl
-bare_leaf m (instr.BrTable labels other) rest = refl
-bare_leaf m (instr.Call f) rest = refl
-bare_leaf m (instr.CallIndirect t) rest = refl
-bare_leaf m (instr.LocalGet k) rest = refl
-bare_leaf m (instr.LocalSet k) rest = refl
-bare_leaf m (instr.LocalTee k) rest = refl
-bare_leaf m (instr.GlobalGet k) rest = refl
-bare_leaf m (instr.GlobalSet k) rest = refl
-bare_leaf m (instr.Load op a) rest = refl
-bare_leaf m (instr.Store op a) rest = refl
-bare_leaf m instr.MemorySize rest = refl
-bare_leaf m instr.MemoryGrow rest = refl
-bare_leaf m instr.MemoryCopy rest = refl
-bare_leaf m instr.MemoryFill rest = refl
-bare_leaf m (instr.I32Const n) rest = refl
-bare_leaf m (instr.I64Const n) rest = refl
-bare_leaf m (instr.Num op) rest = refl
-bare_leaf m (instr.Float op) rest = refl
+bare_leaf m _ rest = refl
 
 pub bare_marked : (w : ℕ → Bool) (code : Code) (p : ℕ) → bare (marked w p code) ≡ marked unwatched p code
 bare_marked w done p = refl

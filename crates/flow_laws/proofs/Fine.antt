@@ -52,14 +52,14 @@ abbrev pub EndsFine : Sites → List EndAt → Type 0
 EndsFine S [] = Unit {0}
 EndsFine S (e ∷ es) = AllMade S e.names × MadeOk S e.owner × EndsFine S es
 
-none_node : {A : Type 0} (n : Node) → None ≡ Some n → A
+pub none_node : {A : Type 0} (n : Node) → None ≡ Some n → A
 none_node n e = absurd (grind arith)
 
 get_node : Option Node → Node → Node
 get_node None d = d
 get_node (Some n) d = n
 
-some_node : (a n : Node) → Some a ≡ Some n → a ≡ n
+pub some_node : (a n : Node) → Some a ≡ Some n → a ≡ n
 unfolding get_node
 some_node a n e = ap (λ o. get_node o a) e
 

@@ -12,7 +12,7 @@ use Rattle.flow_laws.proofs.Starts.{own_calls, host_type, start, start_same, sta
 use Rattle.flow_domain.specs.Heights.{Shaped}
 use Rattle.flow_laws.proofs.Two.{Two, lap_two, never_back, two}
 use Rattle.wasm_types.specs.Labels.{body_label, first}
-use Rattle.wasm_types.specs.Nodes.{AllIn, every}
+use Rattle.wasm_types.specs.Nodes.{every}
 use Rattle.wasm_types.specs.declared.place.Node.TheVariants.{Exit}
 use Rattle.wasm_types.specs.declared.place.Node.{Node}
 use Rattle.flow_laws.specs.Calls.{AgreeOn, CallComes, CallDoes, DoesLaw, DoneLaw, OpOk, SameOn, TwoLaw}
@@ -37,11 +37,6 @@ use Rattle.wasm_types.specs.declared.run.Event.{Event}
 use Rattle.wasm_meaning.specs.State.{Store}
 use Rattle.wasm_meaning.specs.Stops.{Spent}
 use Rattle.wasm_types.specs.Marked.{size}
-
-every_in : (n : ℕ) (names : List Node) → n ≤ length names → AllIn every n names
-every_in zero names le = tt
-every_in (suc n) [] le = absurd (omega arith)
-every_in (suc n) (d ∷ names) le = (refl, every_in n names (omega arith))
 
 abbrev none : Node → Bool
 none d = false

@@ -17,7 +17,7 @@ use Rattle.flow_domain.specs.Presence.{IsNeeded, HoldsNeeded, maker, result, ope
 use Rattle.flow_domain.specs.Rows.{CallRows}
 use Rattle.flow_laws.specs.Cutting.{NeedK, used, used_done, used_result, used_final, later, IsKept}
 use Rattle.flow_laws.proofs.Bridge.{HasAt, has_front, has_back, length-sites, Standing}
-use Rattle.flow_laws.proofs.Fine.{MadeOk, AllMade, carry_made, shadow_stands, site_fine, end_fine}
+use Rattle.flow_laws.proofs.Fine.{none_node, some_node, MadeOk, AllMade, carry_made, shadow_stands, site_fine, end_fine}
 use Rattle.flow_laws.proofs.Order.{get_reverse}
 
 abbrev pub is_site : Option (Option Site) → Bool
@@ -101,19 +101,8 @@ live_stands S K = record {
   at_end = λ b on. end_of (slice_get S b) (both_on (K (Join b)) (live S (Join b)) on).1;
 }
 
-no_made : {A : Type 0} (d : Node) → None ≡ Some d → A
-no_made d e = absurd (grind arith)
-
-get_node : Option Node → Node → Node
-get_node None d = d
-get_node (Some n) d = n
-
-some_node : (a n : Node) → Some a ≡ Some n → a ≡ n
-unfolding get_node
-some_node a n e = ap (λ o. get_node o a) e
-
 live_name : (S : Sites) (names : List Node) (k : ℕ) (d : Node) → AllMade S names → slice_get names k ≡ Some d → live S d ≡ true
-live_name S [] k d a e = no_made d e
+live_name S [] k d a e = none_node d e
 live_name S (n ∷ names) zero d a e = ap (live S) (sym (some_node n d e)) ∙ live_made S n a.0
 live_name S (n ∷ names) (suc k) d a e = live_name S names k d a.1 e
 
@@ -121,8 +110,8 @@ all_live : (S : Sites) (M : Node → Bool) (n : ℕ) (names : List Node) → All
 all_live S M n names a f k d lt e = and_on (M d) (live S d) (f k d lt e) (live_name S names k d a e)
 
 taken_in : (n k : ℕ) (names : List Node) (d : Node) → slice_get (take n names) k ≡ Some d → slice_get names k ≡ Some d
-taken_in zero k names d e = no_made d e
-taken_in (suc n) k [] d e = no_made d e
+taken_in zero k names d e = none_node d e
+taken_in (suc n) k [] d e = none_node d e
 taken_in (suc n) zero (x ∷ names) d e = e
 taken_in (suc n) (suc k) (x ∷ names) d e = taken_in n k names d e
 

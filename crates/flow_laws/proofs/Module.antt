@@ -3,7 +3,7 @@ use Rattle.wasm_types.specs.declared.module.ValType.{ValType}
 use Rattle.std.proofs.Common.{Option, ◌≡◌, ℕ, zero, suc, ◌≤◌, List, [], ◌∷◌, reverse, Bool, true, false, Some, None, take, length, slice_get, refl, sym, ap, ap₂, ◌∙◌, subst, arith, true≢false}
 use Rattle.wasm_types.specs.declared.module.Value.{Value}
 use Rattle.wasm_types.specs.declared.instr.Instr.{Instr}
-use Rattle.flow_laws.proofs.Bridge.{Facts, writes_only}
+use Rattle.flow_laws.proofs.Bridge.{off-or-on, every_in, Facts, writes_only}
 use Rattle.flow_laws.proofs.Callees.{FixedOk, call_does, call_done, call_outer, call_two}
 use Rattle.flow_laws.proofs.Closed.{Agrees, Completes, Cuts, DoOk, Matches, Mode, cuts, follows, strict}
 use Rattle.flow_laws.proofs.Order.{match_reverse}
@@ -11,7 +11,7 @@ use Rattle.flow_laws.proofs.Tasks.{call_or, plain_comes, plain_does, plain_same,
 use Rattle.wasm_types.specs.Nodes.{Join, AllIn, At, every}
 use Rattle.wasm_types.specs.declared.place.Node.{Node}
 use Rattle.flow_domain.specs.Rows.{CallRows, Decider, Done, Final, Led, Makes, Needed, Output, Place, Ret, RowOf, Rows, argument, carrying, condition, deciding, deciding_again, done_branch, done_trap, done_unreachable, ending, operand, place, reading, writer}
-use Rattle.flow_laws.specs.Calls.{DoesLaw, DoneLaw, OpOk, SameOn, TwoLaw, begun}
+use Rattle.flow_laws.specs.Calls.{DoesLaw, DoneLaw, OpOk, SameOn, TwoLaw}
 use Rattle.wasm_types.specs.Reaching.{Enters, stands, steps, Path, along, edge, writes_it}
 use Rattle.wasm_types.specs.Shadow.{InShadow}
 use Rattle.wasm_types.specs.Sites.{HasJoin, BrIfHead, BrTableHead, DoHead, EndAt, IfHead, IsSite, Leads, Site, Sites, carry_names, from_at, operand_count, to_next}
@@ -23,7 +23,6 @@ use Rattle.flow_laws.proofs.Effects.{Comes, Does, SameEnd}
 use Rattle.wasm_meaning.specs.Equality.{EqAt}
 use Rattle.wasm_types.specs.declared.place.Loc.TheVariants.{Global, Host, Local, Mem, Size}
 use Rattle.wasm_types.specs.declared.place.Loc.{Loc}
-use Rattle.wasm_types.specs.Locations.{is_outer}
 use Rattle.wasm_meaning.specs.State.{Store, arg}
 
 -- an item at a node
@@ -52,11 +51,6 @@ all_of : (M : Node → Bool) (n : ℕ) (names : List Node) → n ≤ length name
 all_of M zero names le f = tt
 all_of M (suc n) [] le f = absurd (omega arith)
 all_of M (suc n) (d ∷ names) le f = (f 0 d refl, all_of M n names (omega arith) (λ k e q. f (suc k) e q))
-
-every_in : (n : ℕ) (names : List Node) → n ≤ length names → AllIn every n names
-every_in zero names le = tt
-every_in (suc n) [] le = absurd (omega arith)
-every_in (suc n) (d ∷ names) le = (refl, every_in n names (omega arith))
 
 pub all_match : (M : Node → Bool) (names : List Node) (vs vs' : List Value) → ((k : ℕ) (d : Node) → slice_get names k ≡ Some d → M d ≡ true)
     → Matches M names vs vs' → vs' ≡ vs
@@ -94,17 +88,6 @@ length_match M (d ∷ names) (v ∷ vs) (v' ∷ vs') m = ap suc (length_match M 
 pub path_of : (B : Bounds) (S : Sites) (x : Loc) (a b q : Node) → Leads S a b → Enters (written_by B S) S x b q → Path (written_by B S) S x a q
 path_of B S x a b q l stands = edge l
 path_of B S x a b q l (steps c m off e) = along b l off (path_of B S x b c q m e)
-
-entered-outer : (x : Loc) (vs vs' : List Value) (st st' : Store) → is_outer x ≡ true → EqAt x st st' → EqAt x (begun vs st) (begun vs' st')
-entered-outer (Local k) vs vs' st st' on e = absurd (true≢false (sym on))
-entered-outer (Global g) vs vs' st st' on e = e
-entered-outer Mem vs vs' st st' on e = e
-entered-outer Size vs vs' st st' on e = e
-entered-outer Host vs vs' st st' on e = e
-
-no_outer : (k : ℕ) (b : Bool) → (b ≡ true → is_outer (Local k) ≡ true) → b ≡ false
-no_outer k true f = absurd (true≢false (sym (f refl)))
-no_outer k false f = refl
 
 -- the laws of calls that both inductions use
 pub record Good (B : Bounds) (R : Rows) (c : Calls) : Type 0 where
@@ -170,10 +153,6 @@ module _ (Z : Fixed) (W : Cover) (R : Rows) (ok : FixedOk Z W) (self : ℕ) (S :
 
   no_trap : (p : ℕ) (s : Site) (op : Instr) → IsSite S p s → s.head ≡ DoHead op → o ≡ Done → K (At p) ≡ false → may_trap B op ≡ false
   no_trap p s op is hd od off = off-or-on (may_trap B op) (λ m. true≢false (sym (sets.k_is (At p) (makes_it Done (done_trap op s od is hd m))) ∙ off))
-    where
-      off-or-on : (q : Bool) → (q ≡ true → ⊥) → q ≡ false
-      off-or-on true f = absurd (f refl)
-      off-or-on false f = refl
 
   -- an instruction of a function whose completion is asked for goes on from the other store too
   comes_by : (p : ℕ) (s : Site) (op : Instr) → IsSite S p s → s.head ≡ DoHead op → takes (callees Z.m) op ≤ length s.names → o ≡ Done → (c : Calls)

@@ -19,19 +19,11 @@ use Rattle.flow_laws.proofs.Marks.{trues, live_marks, Pointwise, pointwise-split
 -- ---- the marks of code that is marked by number
 
 marks_leaf : (m : Bool) (op : Instr) (rest : Marked) → marks (leaf m op rest) ≡ m ∷ marks rest
-marks_leaf m (instr.Br label) rest = refl
-marks_leaf m (instr.BrIf label) rest = refl
-marks_leaf m (instr.BrTable labels other) rest = refl
 marks_leaf m instr.Return rest = refl
-marks_leaf m instr.Unreachable rest = refl
 marks_leaf m _ rest = refl
 
 size_leaf : (m : Bool) (op : Instr) (rest : Marked) → size (leaf m op rest) ≡ 1 + size rest
-size_leaf m (instr.Br label) rest = refl
-size_leaf m (instr.BrIf label) rest = refl
-size_leaf m (instr.BrTable labels other) rest = refl
 size_leaf m instr.Return rest = refl
-size_leaf m instr.Unreachable rest = refl
 size_leaf m _ rest = refl
 
 size_marked : (w : ℕ → Bool) (c : Code) (p : ℕ) → size (marked w p c) ≡ count c

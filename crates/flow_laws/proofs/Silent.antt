@@ -27,33 +27,10 @@ arity_small (Some t) = omega arith
 
 silent_leaf : (op : Instr) (rest : Marked) → Silent rest → Silent (leaf false op rest)
 silent_leaf instr.Unreachable rest s = refl
-silent_leaf instr.Nop rest s = (refl, s)
-silent_leaf instr.Drop rest s = (refl, s)
-silent_leaf instr.Select rest s = (refl, s)
 silent_leaf instr.Return rest s = refl
-silent_leaf (instr.Block' kind m inner) rest s = (refl, s)
-silent_leaf (instr.Loop' kind m inner) rest s = (refl, s)
-silent_leaf (instr.If' kind m first n second) rest s = (refl, s)
 silent_leaf (instr.Br l) rest s = refl
-silent_leaf (instr.BrIf l) rest s = (refl, s)
 silent_leaf (instr.BrTable labels other) rest s = refl
-silent_leaf (instr.Call f) rest s = (refl, s)
-silent_leaf (instr.CallIndirect t) rest s = (refl, s)
-silent_leaf (instr.LocalGet k) rest s = (refl, s)
-silent_leaf (instr.LocalSet k) rest s = (refl, s)
-silent_leaf (instr.LocalTee k) rest s = (refl, s)
-silent_leaf (instr.GlobalGet k) rest s = (refl, s)
-silent_leaf (instr.GlobalSet k) rest s = (refl, s)
-silent_leaf (instr.Load op a) rest s = (refl, s)
-silent_leaf (instr.Store op a) rest s = (refl, s)
-silent_leaf instr.MemorySize rest s = (refl, s)
-silent_leaf instr.MemoryGrow rest s = (refl, s)
-silent_leaf instr.MemoryCopy rest s = (refl, s)
-silent_leaf instr.MemoryFill rest s = (refl, s)
-silent_leaf (instr.I32Const n) rest s = (refl, s)
-silent_leaf (instr.I64Const n) rest s = (refl, s)
-silent_leaf (instr.Num op) rest s = (refl, s)
-silent_leaf (instr.Float op) rest s = (refl, s)
+silent_leaf _ rest s = (refl, s)
 
 pub silent_text : (code : Code) (p : ℕ) → Silent (marked unwatched p code)
 silent_text done p = tt

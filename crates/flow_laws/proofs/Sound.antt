@@ -22,7 +22,7 @@ use Rattle.flow_domain.specs.Rows.{AnyRound, CallRows, Dep, Done, Final, Holds, 
 use Rattle.wasm_types.specs.Funcs.{text, Func, func_of, unwatched}
 use Rattle.wasm_meaning.proofs.ActionLaws.{gives_is}
 use Rattle.flow_laws.proofs.Effects.{stops_give}
-use Rattle.wasm_meaning.specs.Effects.{Answer, Effect, Fixed, Gives, Stops, fixed}
+use Rattle.wasm_meaning.specs.Effects.{Effect, Fixed, Gives, fixed}
 use Rattle.wasm_types.specs.Actions.{Callee, Own, Through}
 use Rattle.wasm_meaning.specs.Fits.{Fits}
 use Rattle.wasm_types.specs.Hosts.{MayStand, HostFunc}
@@ -261,10 +261,6 @@ ends_stable m F args s d before after n =
     go (Branch zero) n = tt
     go (Branch (suc l)) n = absurd (n (λ z. z))
     go (Stopped why) n = absurd (n (λ z. z))
-
-get_effect : Answer → Effect → Effect
-get_effect (Gives e) d = e
-get_effect (Stops why s) d = d
 
 pub done_end : DoneEnd
 done_end m W ok f F is J omitted args args' s s' d n results last en =

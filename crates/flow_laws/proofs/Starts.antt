@@ -67,18 +67,6 @@ from_type m f F t (Some b) e = subst (λ z. HasType m f z t) (some_func _ F e) (
 pub has_type : (m : Module) (f : ℕ) (F : Func) (t : FuncType) → func_of m f ≡ Some F → type_of_func m f ≡ Some t → HasType m f F t
 has_type m f F t is e = from_type m f F t (body_of m f) (subst (λ z. func_from z (body_of m f) ≡ Some F) e is)
 
--- an own function has a type
-pub record Typed (m : Module) (f : ℕ) : Type 0 where
-  pub type_is : FuncType
-  pub is : type_of_func m f ≡ Some type_is
-
-pub typed : (m : Module) (f : ℕ) (F : Func) → func_of m f ≡ Some F → Typed m f
-typed m f F is = go (type_of_func m f) refl is
-  where
-    go : (o : Option FuncType) → type_of_func m f ≡ o → func_from o (body_of m f) ≡ Some F → Typed m f
-    go None e q = no_func F q
-    go (Some t) e q = record { type_is = t; is = e }
-
 -- the same where the arguments come the first one first, as in an invocation
 pub entry_same : (F : Func) (x : Loc) (args args' : List Value) (s s' : State) → length args' ≡ length args → EqAt x (entry args s) (entry args' s')
     → EqAt x (entered F args s).store (entered F args' s').store

@@ -82,7 +82,7 @@ left_i32 c (I32Const n) t k locals small (a, b) = sym (same_first b)
 left_i32 c (Num (Bin W32 Add)) t k locals small (a, b) = sym (same_first b)
 left_i32 c _ t k locals small h = absurd small
 
-same_op : {a b : Instr} → DoHead a ≡ DoHead b → a ≡ b
+pub same_op : {a b : Instr} → DoHead a ≡ DoHead b → a ≡ b
 same_op e = cc
 
 no_result : (h : Head) (op : Instr) (k : ValType) → h ≡ DoHead op → HasResult h k → ⊥

@@ -1,6 +1,8 @@
 mod SmallCode
-mod FlatSites
+pub mod FlatSites
 pub mod FlatSlice
+pub mod FlatInteger
 pub mod Made
 pub mod OneSliced
 mod SliceExample
+pub mod Follows

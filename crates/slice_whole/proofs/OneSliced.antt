@@ -23,7 +23,7 @@ use Rattle.stack_repair.proofs.Appended.{own_body}
 use Rattle.stack_repair.proofs.Bodies.{one_cut_code}
 use Rattle.slice_whole.specs.Flat.{IsFlat}
 use Rattle.slice_whole.proofs.FlatSites.{live_site, site_within, places_i32}
-use Rattle.slice_whole.proofs.FlatSlice.{OwnFunc, own_func, at_own, of_own, all_at, locals_i32, small_body}
+use Rattle.slice_whole.proofs.FlatSlice.{OwnFunc, own_func, at_own, of_own, locals_i32, small_body}
 
 -- the position is one of the body's
 pub sliced_there : (m : Module) (f i : ℕ) (name : Name) (new : Module) (at : ℕ) → IsFlat m → (s : IsSliced m f i name new at) → i < count (code_of s.body.code)

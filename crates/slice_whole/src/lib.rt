@@ -2,7 +2,9 @@
 #![tactic(auto)]
 
 mod flat;
+mod laws;
 mod slicing;
 
 pub use flat::is_flat;
+pub use laws::law_slice_follows;
 pub use slicing::{SliceRefusal, Sliced, slice};

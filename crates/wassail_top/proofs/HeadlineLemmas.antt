@@ -21,13 +21,15 @@ use Rattle.wassail_top.specs.Outcome.{GaveAll}
 use Rattle.wassail_top.specs.Refusals.{Answer, why_not_decoded, why_not_admitted, why_not_sliced}
 use Rattle.flow_domain.specs.Sliced.{IsSliced}
 use Rattle.slice_whole.specs.Slices.{Refuses}
+use Rattle.slice_whole.proofs.Follows.{slice_follows}
 use Rattle.wassail_top.specs.Words.{order_of}
 use Rattle.wassail_top.proofs.Causes.{module_status, query_status}
 use Rattle.stack_repair.proofs.Slices.{sliced_has_cut}
 use Rattle.stack_repair.proofs.Appended.{slice_is_valid, slice_is_spelled}
 
 holds : (f i : ℕ) (name : List ℕ) (bytes : List ℕ) (left_old left_new out_old out_new err_old err_new : Option (List ℕ)) (answer : Answer)
-    → TookAll left_old left_new bytes → length bytes ≤ most_bytes → AnswersBytes (slice f i name) bytes answer → answer.status ≡ 0 → GaveAll out_old out_new err_old err_new answer
+    → TookAll left_old left_new bytes → length bytes ≤ most_bytes → AnswersBytes (slice f i name) bytes answer → answer.status ≡ 0
+    → GaveAll out_old out_new err_old err_new answer
     → SliceHolds f i name left_old left_new out_old out_new err_old err_new
 holds f i name bytes left_old left_new out_old out_new err_old err_new answer took short (inl bad) zero gave =
     let one : answer.status ≡ 1 = module_status (λ end. Decodes bytes (Err end)) why_not_decoded answer bad in absurd (omega arith)
@@ -57,6 +59,7 @@ holds f i name bytes left_old left_new out_old out_new err_old err_new answer to
       err = given.err;
       valid = valid.0;
       itself = record { decodes = (spelled.1, valid.3 most_nesting sub.nesting); alone = spelled.2 };
+      follows = slice_follows form flat f i (name_of name) s.new s.at s.sliced;
     }
 
 of_order : (f i : ℕ) (name : List ℕ) (left_old left_new out_old out_new err_old err_new : Option (List ℕ)) (answer : Answer)
@@ -68,7 +71,8 @@ of_order f i name left_old left_new out_old out_new err_old err_new answer (inr 
     holds f i name bytes left_old left_new out_old out_new err_old err_new answer took short h zero gave
 
 pub headline : (words : List (List ℕ)) (f i : ℕ) (name : List ℕ) (left_old left_new : Option (List ℕ)) (before now : ℕ) (out_old out_new err_old err_new : Option (List ℕ)) (answer : Answer)
-    → order_of words ≡ Some (slice f i name) → IsDue words left_old left_new before now answer → answer.status ≡ 0 → GaveAll out_old out_new err_old err_new answer
+    → order_of words ≡ Some (slice f i name) → IsDue words left_old left_new before now answer → answer.status ≡ 0
+    → GaveAll out_old out_new err_old err_new answer
     → SliceHolds f i name left_old left_new out_old out_new err_old err_new
 headline words f i name left_old left_new before now out_old out_new err_old err_new answer order (inl (inl h)) zero gave =
     let two : answer.status ≡ 2 = ap (λ (a : Answer). a.status) h.1 in absurd (omega arith)

@@ -13,6 +13,7 @@ use Rattle.wassail_top.proofs.Causes.{not_without}
 pub admitted_not_refused : (m : Module) (answer : Answer) → IsAdmitted m → IsRefused refusal.Module (Refuses m) why_not_admitted answer → ⊥
 admitted_not_refused m answer h p = not_without why_not_admitted p.0 end.Memory p.1 p.3 refl (none_refused m p.0 h p.2)
 
-pub one_end : (m : Module) (d e : AdmitEnd) (r s : ModuleRefusal) → Refuses m d → Refuses m e → why_not_admitted d ≡ Some r → why_not_admitted e ≡ Some s → d ≡ e
+pub one_end : (m : Module) (d e : AdmitEnd) (r s : ModuleRefusal) → Refuses m d → Refuses m e → why_not_admitted d ≡ Some r → why_not_admitted e ≡ Some s
+    → d ≡ e
 one_end m d e r s p q why_d why_e =
     one_refusal m d e p q (not_without why_not_admitted d end.Memory r why_d refl) (not_without why_not_admitted e end.Memory s why_e refl)

@@ -40,28 +40,33 @@ one_count m f n k (b, at, is) (d, there, counted) =
 
 -- ---- refusals
 
-one_cause : (m : Module) (f i : ℕ) (name : List ℕ) (c d : SliceRefusal) (r s : QueryRefusal) → IsFlat m → Refuses m f i name c → Refuses m f i name d → why_not_sliced f i c ≡ Some r → why_not_sliced f i d ≡ Some s → c ≡ d
+one_cause : (m : Module) (f i : ℕ) (name : List ℕ) (c d : SliceRefusal) (r s : QueryRefusal) → IsFlat m → Refuses m f i name c → Refuses m f i name d
+    → why_not_sliced f i c ≡ Some r → why_not_sliced f i d ≡ Some s → c ≡ d
 one_cause m f i name cause.NoFunction cause.NoFunction r s flat p q told told' = refl
 one_cause m f i name cause.NoFunction (cause.NoInstruction n) r s flat p q told told' = let lt = has_func m f n flat q.0 in absurd (omega arith)
 one_cause m f i name cause.NoFunction cause.NameTaken r s flat p q told told' = let lt = has_func m f q.0.0 flat q.0.1 in absurd (omega arith)
 one_cause m f i name cause.NoFunction cause.Memory r s flat p q told told' = absurd cc
 one_cause m f i name (cause.NoInstruction n) cause.NoFunction r s flat p q told told' = let lt = has_func m f n flat p.0 in absurd (omega arith)
 one_cause m f i name (cause.NoInstruction n) (cause.NoInstruction k) r s flat p q told told' = ap cause.NoInstruction (one_count m f n k p.0 q.0)
-one_cause m f i name (cause.NoInstruction n) cause.NameTaken r s flat p q told told' = let same = one_count m f n q.0.0 p.0 q.0.1 in let lt = q.0.2 in let le = p.1 in absurd (omega arith)
+one_cause m f i name (cause.NoInstruction n) cause.NameTaken r s flat p q told told' =
+    let same = one_count m f n q.0.0 p.0 q.0.1 in let lt = q.0.2 in let le = p.1 in absurd (omega arith)
 one_cause m f i name (cause.NoInstruction n) cause.Memory r s flat p q told told' = absurd cc
 one_cause m f i name cause.NameTaken cause.NoFunction r s flat p q told told' = let lt = has_func m f p.0.0 flat p.0.1 in absurd (omega arith)
-one_cause m f i name cause.NameTaken (cause.NoInstruction n) r s flat p q told told' = let same = one_count m f n p.0.0 q.0 p.0.1 in let lt = p.0.2 in let le = q.1 in absurd (omega arith)
+one_cause m f i name cause.NameTaken (cause.NoInstruction n) r s flat p q told told' =
+    let same = one_count m f n p.0.0 q.0 p.0.1 in let lt = p.0.2 in let le = q.1 in absurd (omega arith)
 one_cause m f i name cause.NameTaken cause.NameTaken r s flat p q told told' = refl
 one_cause m f i name cause.NameTaken cause.Memory r s flat p q told told' = absurd cc
 one_cause m f i name cause.Memory d r s flat p q told told' = absurd cc
 
 -- ---- slices
 
-sliced_positions : (m : Module) (f i : ℕ) (name : List ℕ) (new : Module) (at : ℕ) → IsFlat m → (s : IsSliced m f i (name_of name) new at) → HasPositions m f (count (code_of s.body.code))
+sliced_positions : (m : Module) (f i : ℕ) (name : List ℕ) (new : Module) (at : ℕ) → IsFlat m → (s : IsSliced m f i (name_of name) new at)
+    → HasPositions m f (count (code_of s.body.code))
 sliced_positions m f i name new at flat s = (s.body, of_own m m.bodies f s.body flat.only.no_imports s.has_body, refl)
 
 -- what is sliced isn't refused
-not_both : (m : Module) (f i : ℕ) (name : List ℕ) (c : SliceRefusal) (r : QueryRefusal) (answer : Answer) → IsFlat m → Refuses m f i name c → why_not_sliced f i c ≡ Some r → IsSlicedAs m f i name answer → ⊥
+not_both : (m : Module) (f i : ℕ) (name : List ℕ) (c : SliceRefusal) (r : QueryRefusal) (answer : Answer) → IsFlat m → Refuses m f i name c
+    → why_not_sliced f i c ≡ Some r → IsSlicedAs m f i name answer → ⊥
 not_both m f i name cause.NoFunction r answer flat p told s =
     let lt = has_func m f (count (code_of s.sliced.body.code)) flat (sliced_positions m f i name s.new s.at flat s.sliced) in omega arith
 not_both m f i name (cause.NoInstruction n) r answer flat p told s =
@@ -71,7 +76,8 @@ not_both m f i name cause.NameTaken r answer flat p told s = s.free p.1
 not_both m f i name cause.Memory r answer flat p told s = absurd cc
 
 one_flat : (f i : ℕ) (name : List ℕ) (m : Module) (a b : Answer) → IsFlat m → AnswersFlat f i name m a → AnswersFlat f i name m b → a ≡ b
-one_flat f i name m a b flat (inl p) (inl q) = one_refused refusal.Query (Refuses m f i name) (why_not_sliced f i) a b (λ c d r s. one_cause m f i name c d r s flat) p q
+one_flat f i name m a b flat (inl p) (inl q) =
+    one_refused refusal.Query (Refuses m f i name) (why_not_sliced f i) a b (λ c d r s. one_cause m f i name c d r s flat) p q
 one_flat f i name m a b flat (inl p) (inr s) = absurd (not_both m f i name p.0 p.1 b flat p.2 p.3 s)
 one_flat f i name m a b flat (inr s) (inl q) = absurd (not_both m f i name q.0 q.1 a flat q.2 q.3 s)
 one_flat f i name m a b flat (inr s) (inr t) =

@@ -64,7 +64,8 @@ slice_proper (a ∷ []) all = none_proper
 slice_proper (a ∷ b ∷ []) all = none_proper
 slice_proper (a ∷ b ∷ name ∷ []) all =
     let text = All-head IsText name [] (All-tail IsText b (name ∷ []) (All-tail IsText a (b ∷ name ∷ []) all)) in
-    short_proper (nat_le (length name) most_name_bytes) _ (λ short. both_proper (number_of a) (number_of b) name text (leb-true (length name) most_name_bytes short))
+    short_proper (nat_le (length name) most_name_bytes) _
+    (λ short. both_proper (number_of a) (number_of b) name text (leb-true (length name) most_name_bytes short))
 slice_proper (a ∷ b ∷ name ∷ c ∷ rest) all = none_proper
 
 words_proper : (words : List (List ℕ)) → All IsText words → IsProper (order_of words)
@@ -100,7 +101,15 @@ too_long : (order : Order) (bytes : List ℕ) → most_bytes < length bytes → 
 too_long order bytes long = (
   Some (drop (most_bytes + 1) bytes),
   refused (refusal.Module of_module.TooLong),
-  inl (record { bytes = take (most_bytes + 1) bytes; taken = sym (take-append-drop (most_bytes + 1) bytes); many = length-take-le (most_bytes + 1) bytes (omega arith) }, refl),
+  inl (
+    record {
+      bytes = take (most_bytes + 1) bytes;
+      taken = sym (take-append-drop (most_bytes + 1) bytes);
+      many = length-take-le (most_bytes + 1) bytes
+          (omega arith);
+    },
+    refl,
+  ),
 )
 
 whole : (order : Order) (bytes : List ℕ) → length bytes ≤ most_bytes → (answer : Answer) × AnswersBytes order bytes answer → Answered order bytes
@@ -112,7 +121,8 @@ some_order order bytes proper all never = elim (cases_lt most_bytes (length byte
   | inr short ↦ some_bytes order bytes proper all (λ found. never (whole order bytes short found))
 ]
 
-of_order : (words : List (List ℕ)) (bytes : List ℕ) (o : Option Order) → order_of words ≡ o → All IsText words → All IsU8 bytes → NotRefuted (HasAnswer words bytes)
+of_order : (words : List (List ℕ)) (bytes : List ℕ) (o : Option Order) → order_of words ≡ o → All IsText words → All IsU8 bytes
+    → NotRefuted (HasAnswer words bytes)
 of_order words bytes None is texts all never = never (Some bytes, refused refusal.Words, inl (is, refl))
 of_order words bytes (Some order) is texts all never =
     some_order order bytes (words_proper words texts order is) all (λ found. never (found.0, found.1, inr (order, is, found.2)))

@@ -33,7 +33,8 @@ past_text bytes text rest at le here =
     ap (λ n. drop n bytes) (sym same) ∙ ap (drop (length (take at bytes) + length text)) (sym whole)
     ∙ drop-append-add (take at bytes) (text ++ rest) (length text) ∙ drop-append_seam text rest
 
-stands_there : {A : Type 0} (Spelled : List ℕ → A → Type 0) (bytes text rest : List ℕ) (at : ℕ) (v : A) → at ≤ length bytes → drop at bytes ≡ text ++ rest → Spelled text v
+stands_there : {A : Type 0} (Spelled : List ℕ → A → Type 0) (bytes text rest : List ℕ) (at : ℕ) (v : A) → at ≤ length bytes → drop at bytes ≡ text ++ rest
+    → Spelled text v
     → Stands Spelled bytes at (at + length text) v
 stands_there Spelled bytes text rest at v le here s = record {
   text = text;
@@ -49,13 +50,15 @@ Framing bytes = ((fs : List (ℕ × List ℕ)) × IsFramed bytes fs) ⊎ ((k : �
 abbrev Another : List ℕ → ℕ → ℕ → Type 0
 Another bytes last at = (stop : ℕ) × (f : ℕ × List ℕ) × Stands (NextFrame last) bytes at stop f
 
-framed_to_end : (bytes : List ℕ) (last at : ℕ) (fs : List (ℕ × List ℕ)) → take 8 bytes ≡ header → Stands (Sections last) bytes 8 at fs → length bytes ≤ at → Framing bytes
+framed_to_end : (bytes : List ℕ) (last at : ℕ) (fs : List (ℕ × List ℕ)) → take 8 bytes ≡ header → Stands (Sections last) bytes 8 at fs → length bytes ≤ at
+    → Framing bytes
 framed_to_end bytes last at fs begun s le =
     let within = s.within in
     let same : at ≡ length bytes = omega arith in
     inl (fs, record { begun = begun; final = last; framed = subst (λ (n : ℕ). Stands (Sections last) bytes 8 n fs) same s })
 
-unframed : (bytes : List ℕ) (last at : ℕ) (fs : List (ℕ × List ℕ)) → take 8 bytes ≡ header → Stands (Sections last) bytes 8 at fs → at < length bytes → (Another bytes last at → ⊥)
+unframed : (bytes : List ℕ) (last at : ℕ) (fs : List (ℕ × List ℕ)) → take 8 bytes ≡ header → Stands (Sections last) bytes 8 at fs → at < length bytes
+    → (Another bytes last at → ⊥)
     → Framing bytes
 unframed bytes last at fs begun s lt never =
     inr (
@@ -72,7 +75,8 @@ unframed bytes last at fs begun s lt never =
       },
     )
 
-framing : (n : ℕ) (bytes : List ℕ) (last at : ℕ) (fs : List (ℕ × List ℕ)) → take 8 bytes ≡ header → Stands (Sections last) bytes 8 at fs → length bytes ≤ at + n → NotRefuted (Framing bytes)
+framing : (n : ℕ) (bytes : List ℕ) (last at : ℕ) (fs : List (ℕ × List ℕ)) → take 8 bytes ≡ header → Stands (Sections last) bytes 8 at fs
+    → length bytes ≤ at + n → NotRefuted (Framing bytes)
 framing zero bytes last at fs begun s few never = never (framed_to_end bytes last at fs begun s (omega arith))
 framing (suc n) bytes last at fs begun s few never = elim (cases_lt at (length bytes)) [
   | inl lt ↦ either (Another bytes last at) (λ found. elim found [
@@ -131,7 +135,8 @@ put_of : (c : Contents) (m : Module) → Depth c → (entry : Option ℕ) × (ne
 put_of c m (inl shallow) = (None, put c m, (refl, shallow))
 put_of c m (inr (entry, deep)) = (Some entry, m, deep)
 
-reading : (gs rest : List (ℕ × List ℕ)) (final : ℕ) (deep : Option (ℕ × ℕ)) (m : Module) → InOrder 0 (gs ++ rest) final → All IsSpelled gs → IsRead gs deep m → NotRefuted (Reading (gs ++ rest))
+reading : (gs rest : List (ℕ × List ℕ)) (final : ℕ) (deep : Option (ℕ × ℕ)) (m : Module) → InOrder 0 (gs ++ rest) final → All IsSpelled gs → IsRead gs deep m
+    → NotRefuted (Reading (gs ++ rest))
 reading gs [] final deep m ordered all read never = never (subst Reading (sym (append-nil gs)) (inr (all, deep, m, read)))
 reading gs (f ∷ rest) final deep m ordered all read never = either (IsSpelled f) (λ spelled. elim spelled [
   | inl s ↦ depth s.0 (λ d.
@@ -146,7 +151,21 @@ reading gs (f ∷ rest) final deep m ordered all read never = either (IsSpelled 
 -- ---- the whole
 
 empty : Module
-empty = record { types = []; imports = []; funcs = []; tables = []; mems = []; globals = []; exports = []; start = None; elems = []; bodies = []; segments = []; names = None }
+empty =
+    record {
+      types = [];
+      imports = [];
+      funcs = [];
+      tables = [];
+      mems = [];
+      globals = [];
+      exports = [];
+      start = None;
+      elems = [];
+      bodies = [];
+      segments = [];
+      names = None;
+    }
 
 empty_read : IsRead [] None empty
 unfolding empty
@@ -161,16 +180,19 @@ abbrev pub DecodedOrRefused : List ℕ → Type 0
 DecodedOrRefused bytes =
     ((m : Module) × Decodes bytes (Ok m)) ⊎ ((cause : DecodeEnd) × (why : ModuleRefusal) × Decodes bytes (Err cause) × (why_not_decoded cause ≡ Some why))
 
-of_read : (bytes : List ℕ) (fs : List (ℕ × List ℕ)) (deep : Option (ℕ × ℕ)) (m : Module) → IsFramed bytes fs → All IsSpelled fs → IsRead fs deep m → NotRefuted (DecodedOrRefused bytes)
+of_read : (bytes : List ℕ) (fs : List (ℕ × List ℕ)) (deep : Option (ℕ × ℕ)) (m : Module) → IsFramed bytes fs → All IsSpelled fs → IsRead fs deep m
+    → NotRefuted (DecodedOrRefused bytes)
 of_read bytes fs (Some at) m framed spelled read never =
     never (inr (end.TooDeep at.0 at.1, of_module.TooDeep at.0 at.1, record { frames = fs; framed = framed; spelled = spelled; first = read }, refl))
 of_read bytes fs None m framed spelled read never = either (length m.funcs ≡ length m.bodies) (λ counted. elim counted [
   | inl same ↦ never (inl (m, (spells_of bytes fs m framed read.0 same, read.1)))
-  | inr differ ↦ never (inr (end.Counts, of_module.Counts, record { frames = fs; framed = framed; m = m; parts = read.0; shallow = read.1; differ = differ }, refl))
+  | inr differ ↦ never (inr
+      (end.Counts, of_module.Counts, record { frames = fs; framed = framed; m = m; parts = read.0; shallow = read.1; differ = differ }, refl))
 ])
 
 of_reading : (bytes : List ℕ) (fs : List (ℕ × List ℕ)) → IsFramed bytes fs → Reading fs → NotRefuted (DecodedOrRefused bytes)
-of_reading bytes fs framed (inl (k, id, bad)) never = never (inr (end.Section k id, of_module.DoesNotRead k id, record { frames = fs; framed = framed; first = bad }, refl))
+of_reading bytes fs framed (inl (k, id, bad)) never =
+    never (inr (end.Section k id, of_module.DoesNotRead k id, record { frames = fs; framed = framed; first = bad }, refl))
 of_reading bytes fs framed (inr (spelled, deep, m, read)) never = of_read bytes fs deep m framed spelled read never
 
 of_framing : (bytes : List ℕ) → Framing bytes → NotRefuted (DecodedOrRefused bytes)

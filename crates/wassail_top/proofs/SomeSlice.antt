@@ -27,7 +27,8 @@ abbrev Answered : Module → ℕ → ℕ → List ℕ → Type 0
 Answered m f i name = (answer : Answer) × AnswersFlat f i name m answer
 
 of_name : (m : Module) (f type i : ℕ) (name : List ℕ) (b : Body) → IsFlat m → ProperName (name_of name) → length name ≤ most_name_bytes
-    → slice_get m.funcs f ≡ Some type → slice_get m.bodies f ≡ Some b → i < count (code_of b.code) → (HasExport m.exports name) ⊎ (HasExport m.exports name → ⊥) → Answered m f i name
+    → slice_get m.funcs f ≡ Some type → slice_get m.bodies f ≡ Some b → i < count (code_of b.code)
+    → (HasExport m.exports name) ⊎ (HasExport m.exports name → ⊥) → Answered m f i name
 of_name m f type i name b flat proper short at is lt (inl taken) =
     (refused (refusal.Query of_query.NameTaken), inl (cause.NameTaken, of_query.NameTaken, ((count (code_of b.code), (b, is, refl), lt), taken), refl, refl))
 of_name m f type i name b flat proper short at is lt (inr free) =
@@ -61,5 +62,6 @@ of_kind : (f i : ℕ) (name : List ℕ) (m : Module) → ProperName (name_of nam
 of_kind f i name m proper short (inl flat) never = of_flat m f i name flat proper short (λ found. never (found.0, inr (flat, found.1)))
 of_kind f i name m proper short (inr other) never = never (refused (refusal.Query of_query.Unbuilt), inl (other, refl))
 
-pub some_slice : (f i : ℕ) (name : List ℕ) (m : Module) → ProperName (name_of name) → length name ≤ most_name_bytes → NotRefuted ((answer : Answer) × AnswersSlice f i name m answer)
+pub some_slice : (f i : ℕ) (name : List ℕ) (m : Module) → ProperName (name_of name) → length name ≤ most_name_bytes
+    → NotRefuted ((answer : Answer) × AnswersSlice f i name m answer)
 some_slice f i name m proper short never = either (IsFlat m) (λ kind. of_kind f i name m proper short kind never)

@@ -28,14 +28,16 @@ pub record Answered (words : List (List ℕ)) (left_old left_new out_old out_new
   pub gave : GaveAll out_old out_new err_old err_new answer
 
 -- The words are a command, the source failed, and err gained the line that tells of it.
-pub record ReadFailed (words : List (List ℕ)) (left_old left_new : Option (List ℕ)) (faults_old faults_new : ℕ) (out_old out_new err_old err_new : Option (List ℕ)) : Type 0 where
+pub record ReadFailed (words : List (List ℕ)) (left_old left_new : Option (List ℕ)) (faults_old faults_new : ℕ)
+    (out_old out_new err_old err_new : Option (List ℕ)) : Type 0 where
   pub order : Order
   pub named : order_of words ≡ Some order
   pub failed : FailedToRead left_old left_new faults_old faults_new
   pub gave : GaveAll out_old out_new err_old err_new (refused refusal.ReadFailed)
 
 -- Out and err gained fronts of what was due.
-pub record WriteFailed (words : List (List ℕ)) (left_old left_new : Option (List ℕ)) (faults_old faults_new : ℕ) (out_old out_new err_old err_new : Option (List ℕ)) : Type 0 where
+pub record WriteFailed (words : List (List ℕ)) (left_old left_new : Option (List ℕ)) (faults_old faults_new : ℕ)
+    (out_old out_new err_old err_new : Option (List ℕ)) : Type 0 where
   pub answer : Answer
   pub due : IsDue words left_old left_new faults_old faults_new answer
   pub gave : GaveFront out_old out_new err_old err_new answer

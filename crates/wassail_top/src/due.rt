@@ -43,7 +43,7 @@ pub fn due<S: Source>(alloc: Global, words: &[String], source: &mut S) -> Result
     ensures untouched { order_of (map string_bytes words.now) ≡ None → source.new ≡ source.old }
     ensures later { S.faults source.old ≤ S.faults source.new }
 {
-    match parse_words(alloc, words) {
+    match parse_words(words) {
         Ok(command) => read_and_answer(alloc, &command, source),
         Err(WordsEnd::Refused) => refuse(alloc, Refusal::Words),
         Err(WordsEnd::Memory) => Err(NoMemory),
@@ -77,10 +77,10 @@ fn answer_bytes(alloc: Global, command: &Command, bytes: &[u8]) -> Result<Reply,
 {
     match decode(alloc, bytes) {
         Ok(form) => answer_module(alloc, command, form),
-        Err(end) => match decode_refusal(end) {
-            Some(cause) => refuse(alloc, Refusal::Module(cause)),
-            None => Err(NoMemory),
-        },
+        Err(end) => {
+            let cause = decode_refusal(end).ok_or(NoMemory)?;
+            refuse(alloc, Refusal::Module(cause))
+        }
     }
 }
 
@@ -94,10 +94,10 @@ fn answer_module(alloc: Global, command: &Command, form: Module) -> Result<Reply
 {
     match admit(alloc, form) {
         Ok(valid) => answer_admitted(alloc, command, valid),
-        Err((_, end)) => match admit_refusal(end) {
-            Some(cause) => refuse(alloc, Refusal::Module(cause)),
-            None => Err(NoMemory),
-        },
+        Err((_, end)) => {
+            let cause = admit_refusal(end).ok_or(NoMemory)?;
+            refuse(alloc, Refusal::Module(cause))
+        }
     }
 }
 
@@ -158,10 +158,10 @@ fn slice_flat(
 {
     match slice(alloc, valid, func, Pos(at), name) {
         Ok(sliced) => write_slice(alloc, &sliced),
-        Err(end) => match slice_refusal(end, func, at) {
-            Some(cause) => refuse(alloc, Refusal::Query(cause)),
-            None => Err(NoMemory),
-        },
+        Err(end) => {
+            let cause = slice_refusal(end, func, at).ok_or(NoMemory)?;
+            refuse(alloc, Refusal::Query(cause))
+        }
     }
 }
 

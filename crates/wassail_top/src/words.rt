@@ -7,7 +7,6 @@ ghost use Rattle.wassail_top.specs.Orders.Order.{slice};
 ghost use Rattle.wassail_top.specs.Parses.{Parses};
 ghost use Rattle.wassail_top.specs.Words.{alone, number_of, order_of, two_and_name};
 
-use std::alloc::Global;
 use thiserror::Error;
 
 /// What the program is asked to do.
@@ -33,7 +32,7 @@ pub enum WordsEnd {
 }
 
 /// The command that the words are. `Refused` comes exactly where they are no command (docs/COMMANDS.md).
-pub fn parse_words(alloc: Global, words: &[String]) -> Result<Command, WordsEnd>
+pub fn parse_words(words: &[String]) -> Result<Command, WordsEnd>
     ensures parses { Parses (order_of (map string_bytes words.now)) result }
     ensures short { IfOk result (λ command. HasShortName (order_read command)) }
 {
@@ -43,7 +42,7 @@ pub fn parse_words(alloc: Global, words: &[String]) -> Result<Command, WordsEnd>
     match name.as_str() {
         "check" => parse_alone(Command::Check, rest),
         "rewrite" => parse_alone(Command::Rewrite, rest),
-        "slice" => parse_slice(alloc, rest),
+        "slice" => parse_slice(rest),
         _ => Err(WordsEnd::Refused),
     }
 }
@@ -65,7 +64,7 @@ fn parse_alone(command: Command, rest: &[String]) -> Result<Command, WordsEnd>
 const MOST_NAME_BYTES: usize = 65536;
 
 // Two numbers and a name.
-fn parse_slice(_alloc: Global, rest: &[String]) -> Result<Command, WordsEnd>
+fn parse_slice(rest: &[String]) -> Result<Command, WordsEnd>
     ensures parses { Parses (two_and_name slice (map string_bytes rest.now)) result }
     ensures short { IfOk result (λ command. HasShortName (order_read command)) }
 {

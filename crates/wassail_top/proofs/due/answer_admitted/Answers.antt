@@ -7,5 +7,7 @@ use Rattle.wassail_top.proofs.due.answer_admitted.Goals as goal
 
 pub returns-in-Slice : goal.returns-in-Slice
 returns-in-Slice c =
-    subst (λ (command : Command). IfOk c.answer_slice.result (λ reply. AnswersAdmitted (order_read command) c.args.valid (reply_answer reply))) (sym c.in-Slice.is)
-    (subst (λ (name : List ℕ). IfOk c.answer_slice.result (λ reply. AnswersSlice c.in-Slice.func c.in-Slice.at name c.args.valid (reply_answer reply))) c.as_str.ensures.value c.answer_slice.ensures)
+    subst (λ (command : Command). IfOk c.answer_slice.result (λ reply. AnswersAdmitted (order_read command) c.args.valid (reply_answer reply)))
+    (sym c.in-Slice.is)
+    (subst (λ (name : List ℕ). IfOk c.answer_slice.result
+    (λ reply. AnswersSlice c.in-Slice.func c.in-Slice.at name c.args.valid (reply_answer reply))) c.as_str.ensures.value c.answer_slice.ensures)

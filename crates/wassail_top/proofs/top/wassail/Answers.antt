@@ -4,13 +4,15 @@ use Rattle.wasm_validate.specs.Admission.{IsAdmitted}
 use Rattle.wassail_top.specs.Reply.{reply_answer}
 use Rattle.wassail_top.proofs.Calm.{read_failed, refused_words, only_refused_words}
 use Rattle.wassail_top.proofs.Complete.{succeeds, slice_succeeds}
-use Rattle.wassail_top.proofs.FlatAdmitted.{flat_admitted, flat_nests}
+use Rattle.slice_whole.proofs.FlatInteger.{flat_nests}
+use Rattle.wassail_top.proofs.FlatAdmitted.{flat_admitted}
 use Rattle.wassail_top.proofs.HeadlineLemmas.{headline}
 use Rattle.wassail_top.proofs.top.wassail.Goals as goal
 
 pub returns-in-Ok-deliver-clause-read_fault : goal.returns-in-Ok-deliver-clause-read_fault
 returns-in-Ok-deliver-clause-read_fault g c =
-    λ three. read_failed (map string_bytes c.args.words.now) _ _ _ _ _ _ _ _ (reply_answer c.in-Ok.reply) c.in-Ok.ensures.due c.in-Ok-deliver.ensures.all (sym c.code-in-Ok-deliver.ensures ∙ three)
+    λ three. read_failed (map string_bytes c.args.words.now) _ _ _ _ _ _ _ _ (reply_answer c.in-Ok.reply) c.in-Ok.ensures.due c.in-Ok-deliver.ensures.all
+    (sym c.code-in-Ok-deliver.ensures ∙ three)
 
 pub returns-in-Ok-deliver-clause-words : goal.returns-in-Ok-deliver-clause-words
 returns-in-Ok-deliver-clause-words g c =
@@ -18,13 +20,15 @@ returns-in-Ok-deliver-clause-words g c =
 
 pub returns-in-Ok-deliver-clause-words_only : goal.returns-in-Ok-deliver-clause-words_only
 returns-in-Ok-deliver-clause-words_only g c =
-    λ two. only_refused_words (map string_bytes c.args.words.now) _ _ _ _ (reply_answer c.in-Ok.reply) c.in-Ok.ensures.due (sym c.code-in-Ok-deliver.ensures ∙ two)
+    λ two. only_refused_words (map string_bytes c.args.words.now) _ _ _ _ (reply_answer c.in-Ok.reply) c.in-Ok.ensures.due
+    (sym c.code-in-Ok-deliver.ensures ∙ two)
 
 pub returns-in-Ok-deliver-clause-valid_succeeds : goal.returns-in-Ok-deliver-clause-valid_succeeds
 returns-in-Ok-deliver-clause-valid_succeeds g c =
     λ bytes m words left short spells valid subset quiet _ _.
     let admitted : IsAdmitted m = record { valid = valid; no_float = subset.no_float; limits = subset.limits } in
-    inl (c.code-in-Ok-deliver.ensures ∙ succeeds _ bytes m _ _ _ _ (reply_answer c.in-Ok.reply) words left short (spells, subset.nesting) admitted quiet c.in-Ok.ensures.due)
+    inl (c.code-in-Ok-deliver.ensures ∙ succeeds _ bytes m _ _ _ _ (reply_answer c.in-Ok.reply) words left short
+    (spells, subset.nesting) admitted quiet c.in-Ok.ensures.due)
 
 pub returns-in-Ok-deliver-clause-slice_succeeds : goal.returns-in-Ok-deliver-clause-slice_succeeds
 returns-in-Ok-deliver-clause-slice_succeeds g c =
@@ -35,4 +39,5 @@ returns-in-Ok-deliver-clause-slice_succeeds g c =
 
 pub returns-in-Ok-deliver-clause-slices : goal.returns-in-Ok-deliver-clause-slices
 returns-in-Ok-deliver-clause-slices g c =
-    λ zero f i name order. headline (map string_bytes c.args.words.now) f i name _ _ _ _ _ _ _ _ (reply_answer c.in-Ok.reply) order c.in-Ok.ensures.due (sym c.code-in-Ok-deliver.ensures ∙ zero) c.in-Ok-deliver.ensures.all
+    λ zero f i name order. headline (map string_bytes c.args.words.now) f i name _ _ _ _ _ _ _ _ (reply_answer c.in-Ok.reply) order c.in-Ok.ensures.due
+    (sym c.code-in-Ok-deliver.ensures ∙ zero) c.in-Ok-deliver.ensures.all
