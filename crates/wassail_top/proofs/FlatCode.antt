@@ -21,7 +21,7 @@ use Rattle.wasm_types.specs.Validity.{Passes, Leads}
 use Rattle.wasm_meaning.specs.Actions.{Callees, Action, Const, Get, Discard, AddI32, takes, leaves}
 use Rattle.wasm_meaning.specs.Laws.{HasMeaning}
 use Rattle.wassail_top.proofs.Heights.{Shaped}
-use Rattle.wassail_top.proofs.Straight.{small_leaf}
+use Rattle.wassail_top.proofs.Straight.{small_plain}
 
 -- ---- functions by number
 
@@ -74,7 +74,7 @@ pub shaped_by : (cs : Callees) (c : Context) (ts : List (List ValType)) (ls : Li
 shaped_by cs c ts ls w done p s s' h t = ap length t
 shaped_by cs c ts ls w (one op rest) p s s' h t =
     let a = small_fits cs c ts op s t.0 h.0 t.1 in
-    subst (λ z. Shaped cs (HasMeaning cs) ls (length s') z (length s)) (sym (small_leaf (w p) op (marked w (p + 1) rest) h.0))
+    subst (λ z. Shaped cs (HasMeaning cs) ls (length s') z (length s)) (sym (small_plain (w p) op (marked w (p + 1) rest) h.0))
     (a.enough, a.means, a.few, subst (λ z. Shaped cs (HasMeaning cs) ls (length s') (marked w (p + 1) rest) z) a.after (shaped_by cs c ts ls w rest (p + 1) t.0 s' h.1 t.2))
 shaped_by cs c ts ls w (block kind body rest) p s s' h t = absurd h
 shaped_by cs c ts ls w (repeat kind body rest) p s s' h t = absurd h

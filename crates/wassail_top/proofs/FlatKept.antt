@@ -12,7 +12,7 @@ use Rattle.wasm_types.specs.declared.ops.Width.TheVariants.{W32}
 use Rattle.wasm_types.specs.declared.ops.BinOp.TheVariants.{Add}
 use Rattle.wasm_types.specs.Code.{Code, done, one, block, repeat, branch, onto, code_of_row, code_of, count}
 use Rattle.wasm_types.proofs.CodeLemmas.{code-next}
-use Rattle.wasm_types.specs.Marked.{Marked, Do, leaf, marked}
+use Rattle.wasm_types.specs.Marked.{Marked, Do, plain, marked}
 use Rattle.wasm_types.specs.Small.{IsSmallInstr, IsSmallCode}
 use Rattle.wasm_meaning.specs.Locations.{Loc}
 use Rattle.wasm_meaning.specs.Actions.{Callees, Action, Const, Get, Discard, AddI32, action_of, takes_of, leaves_of, takes, leaves}
@@ -52,7 +52,7 @@ flags cs w p (branch kind x y rest) = []
 
 -- ---- small steps
 
-pub is_do : (m : Bool) (op : Instr) (rest : Marked) → IsSmallInstr op → leaf m op rest ≡ Do m op rest
+pub is_do : (m : Bool) (op : Instr) (rest : Marked) → IsSmallInstr op → plain m op rest ≡ Do m op rest
 is_do m Drop rest h = refl
 is_do m (LocalGet x) rest h = refl
 is_do m (I32Const n) rest h = refl

@@ -1,6 +1,6 @@
 -- Code of flat modules: it stays so when it is cut, and runs the same in every module.
 use Rattle.std.proofs.Common.{◌≡◌, ℕ, zero, suc, ◌+◌, ◌≤◌, ◌<◌, List, [], ◌∷◌, ◌++◌, Bool, true, false, Option, Some, None, nat_eq, take, drop, reverse, refl, sym, ap, ◌∙◌, subst, arith, true≢false, eq-eqb}
-use Rattle.wasm_types.specs.Marked.{Marked, End, Do, Block, Loop, If, Br, BrIf, BrTable, Return, Unreachable, unmarked, leaf, marked}
+use Rattle.wasm_types.specs.Marked.{Marked, End, Do, Block, Loop, If, Br, BrIf, BrTable, Return, Unreachable, unmarked, plain, marked}
 use Rattle.wasm_types.specs.declared.instr.Instr.{Instr, Drop}
 use Rattle.wasm_types.specs.declared.module.ValType.{ValType}
 use Rattle.wasm_types.specs.declared.module.Value.{Value}
@@ -9,7 +9,7 @@ use Rattle.wasm_meaning.specs.Actions.{Callees, takes, leaves, Answer, Gives, St
 use Rattle.wasm_meaning.specs.Run.{Here, Take, Leave, Run, after, seen, do_step, Below, run}
 use Rattle.wassail_top.specs.Nodes.{Node, At, made}
 use Rattle.wassail_top.specs.Cut.{pick, one_more, shown, drops, filler, result_of, cut}
-use Rattle.wasm_types.specs.Code.{count, Code, done, one, block, repeat, branch, code_of, list_of, onto, is_leaf}
+use Rattle.wasm_types.specs.Code.{count, Code, done, one, block, repeat, branch, code_of, list_of, onto, is_plain}
 use Rattle.wassail_top.proofs.Marks.{trues, ByKind, live_marks}
 use Rattle.wasm_types.specs.Small.{IsSmallInstr, IsSmallCode}
 use Rattle.wasm_types.proofs.CodeLemmas.{onto-one}
@@ -26,19 +26,19 @@ Straight End = Unit {0}
 Straight (Do m op rest) = IsSmallInstr op × Straight rest
 Straight _ = ⊥
 
-pub small_leaf : (m : Bool) (op : Instr) (rest : Marked) → IsSmallInstr op → leaf m op rest ≡ Do m op rest
-small_leaf m (instr.LocalGet x) rest s = refl
-small_leaf m instr.Drop rest s = refl
-small_leaf m (instr.I32Const n) rest s = refl
-small_leaf m (instr.Num (Bin W32 bin.Add)) rest s = refl
-small_leaf m _ rest s = absurd s
+pub small_plain : (m : Bool) (op : Instr) (rest : Marked) → IsSmallInstr op → plain m op rest ≡ Do m op rest
+small_plain m (instr.LocalGet x) rest s = refl
+small_plain m instr.Drop rest s = refl
+small_plain m (instr.I32Const n) rest s = refl
+small_plain m (instr.Num (Bin W32 bin.Add)) rest s = refl
+small_plain m _ rest s = absurd s
 
-small_is_leaf : (op : Instr) → IsSmallInstr op → is_leaf op ≡ true
-small_is_leaf (instr.LocalGet x) s = refl
-small_is_leaf instr.Drop s = refl
-small_is_leaf (instr.I32Const n) s = refl
-small_is_leaf (instr.Num (Bin W32 bin.Add)) s = refl
-small_is_leaf _ s = absurd s
+small_is_plain : (op : Instr) → IsSmallInstr op → is_plain op ≡ true
+small_is_plain (instr.LocalGet x) s = refl
+small_is_plain instr.Drop s = refl
+small_is_plain (instr.I32Const n) s = refl
+small_is_plain (instr.Num (Bin W32 bin.Add)) s = refl
+small_is_plain _ s = absurd s
 
 small_action : (cs cs' : Callees) (op : Instr) → IsSmallInstr op → action_of cs op ≡ action_of cs' op
 small_action cs cs' (instr.LocalGet x) s = refl
@@ -49,7 +49,7 @@ small_action cs cs' _ s = absurd s
 
 pub straight_of : (w : ℕ → Bool) (c : Code) (p : ℕ) → IsSmallCode c → Straight (marked w p c)
 straight_of w done p s = tt
-straight_of w (one op rest) p s = subst Straight (sym (small_leaf (w p) op (marked w (p + 1) rest) s.0)) (s.0, straight_of w rest (p + 1) s.1)
+straight_of w (one op rest) p s = subst Straight (sym (small_plain (w p) op (marked w (p + 1) rest) s.0)) (s.0, straight_of w rest (p + 1) s.1)
 straight_of w (block kind body rest) p s = absurd s
 straight_of w (repeat kind body rest) p s = absurd s
 straight_of w (branch kind x y rest) p s = absurd s
@@ -83,7 +83,7 @@ straight_cut cs K P t (Unreachable m rest) p names s = absurd s
 -- as a list of instructions and back
 pub code_back : (c : Marked) → Straight c → code_of (list_of (unmarked c)) ≡ unmarked c
 code_back End s = refl
-code_back (Do m op rest) s = ap (onto op) (code_back rest s.1) ∙ onto-one op (unmarked rest) (small_is_leaf op s.0)
+code_back (Do m op rest) s = ap (onto op) (code_back rest s.1) ∙ onto-one op (unmarked rest) (small_is_plain op s.0)
 code_back (Block m kind body rest) s = absurd s
 code_back (Loop m kind body rest) s = absurd s
 code_back (If m kind x y rest) s = absurd s
@@ -95,7 +95,7 @@ code_back (Unreachable m rest) s = absurd s
 
 pub by_kind : (c : Marked) → Straight c → ByKind c
 by_kind End s = tt
-by_kind (Do m op rest) s = ((λ m1 r. small_leaf m1 op r s.0), by_kind rest s.1)
+by_kind (Do m op rest) s = ((λ m1 r. small_plain m1 op r s.0), by_kind rest s.1)
 by_kind (Block m kind body rest) s = absurd s
 by_kind (Loop m kind body rest) s = absurd s
 by_kind (If m kind x y rest) s = absurd s
@@ -159,7 +159,7 @@ number_later i p le e = let ne : i ≡ p → ⊥ = λ f. true≢false (sym (eq-e
 none_watched : (i : ℕ) (c : Code) (p : ℕ) → IsSmallCode c → i < p → trues (live_marks (marked (nat_eq i) p c)) ≡ 0
 none_watched i done p s lt = refl
 none_watched i (one op rest) p s lt =
-    ap (λ z. trues (live_marks z)) (small_leaf (nat_eq i p) op (marked (nat_eq i) (p + 1) rest) s.0)
+    ap (λ z. trues (live_marks z)) (small_plain (nat_eq i p) op (marked (nat_eq i) (p + 1) rest) s.0)
     ∙ off_mark (nat_eq i p) _ (λ e. let f = number_is i p e in omega arith) (none_watched i rest (p + 1) s.1 (omega arith))
 none_watched i (block kind body rest) p s lt = absurd s
 none_watched i (repeat kind body rest) p s lt = absurd s
@@ -168,7 +168,7 @@ none_watched i (branch kind x y rest) p s lt = absurd s
 pub one_watched : (i : ℕ) (c : Code) (p : ℕ) → IsSmallCode c → p ≤ i → i < p + count c → trues (live_marks (marked (nat_eq i) p c)) ≡ 1
 one_watched i done p s le lt = absurd (omega arith)
 one_watched i (one op rest) p s le lt =
-    ap (λ z. trues (live_marks z)) (small_leaf (nat_eq i p) op (marked (nat_eq i) (p + 1) rest) s.0)
+    ap (λ z. trues (live_marks z)) (small_plain (nat_eq i p) op (marked (nat_eq i) (p + 1) rest) s.0)
     ∙ on_mark (nat_eq i p) _ (λ e. let f = number_is i p e in none_watched i rest (p + 1) s.1 (omega arith)) (λ e. let l = number_later i p le e in one_watched i rest (p + 1) s.1 l (omega arith))
 one_watched i (block kind body rest) p s le lt = absurd s
 one_watched i (repeat kind body rest) p s le lt = absurd s
