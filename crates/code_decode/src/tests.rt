@@ -1,3 +1,5 @@
+//! Expressions that nest, numbers and opcodes.
+
 use crate::plain::read_numbers;
 use crate::{CodeRefusal, Stop, read_expr};
 use std::alloc::{AllocError, Global};
@@ -40,4 +42,19 @@ fn numbers_are_read(rt: HostRuntime) {
     let bytes = [0xFF, 0x02, 0x80, 0x01, 0x7F, 0x00];
     assert!(&rt; matches!(read_numbers(alloc, &bytes, 1), Ok((_, 5))));
     assert!(&rt; matches!(read_numbers(alloc, &bytes, 0), Err(Stop::No)));
+}
+
+#[test]
+fn opcodes_after_version_one_are_read(rt: HostRuntime) {
+    let alloc = rt.alloc();
+    let extend = [0xC4, 0x0B];
+    assert!(&rt; matches!(read_expr(alloc, &extend, 0), Ok((_, 2))));
+    let past = [0xC5, 0x0B];
+    assert!(&rt; matches!(read_expr(alloc, &past, 0), Err(CodeRefusal::Malformed)));
+    let copy = [0xFC, 0x0A, 0x00, 0x00, 0x0B];
+    assert!(&rt; matches!(read_expr(alloc, &copy, 0), Ok((_, 5))));
+    let padded_fill = [0xFC, 0x8B, 0x00, 0x00, 0x0B];
+    assert!(&rt; matches!(read_expr(alloc, &padded_fill, 0), Ok((_, 5))));
+    let other = [0xFC, 0x0C, 0x00, 0x00, 0x0B];
+    assert!(&rt; matches!(read_expr(alloc, &other, 0), Err(CodeRefusal::Malformed)));
 }

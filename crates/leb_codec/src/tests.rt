@@ -1,3 +1,5 @@
+//! Numbers at the ends of their ranges, and texts that are none.
+
 use super::*;
 use std::test::Fail;
 

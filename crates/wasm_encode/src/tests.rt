@@ -1,3 +1,5 @@
+//! Modules that are written, each with one part of every kind.
+
 ghost use Rattle.std.specs.Prelude.{◌≡◌, ◌<◌, ◌^◌, length, IfOk};
 ghost use Rattle.wasm_types.specs.Canon.{canon_func_type, canon_import, canon_global, canon_export, canon_elem, canon_entry, canon_segment, canon};
 ghost use Rattle.wasm_types.specs.WellFormed.{ProperImport, ProperGlobal, ProperExport, ProperElem, ProperBody, ProperSegment, IsWellFormed};
