@@ -6,7 +6,7 @@ use Rattle.wasm_types.specs.declared.module.ValType.TheVariants.{I32}
 use Rattle.wasm_types.specs.declared.module.NoMemory.{NoMemory}
 use Rattle.wasm_types.specs.declared.instr.Instr.{Instr, Block', Loop', If'}
 use Rattle.wasm_types.specs.declared.instr.Instr.TheVariants.{Block, Loop, If}
-use Rattle.wasm_types.specs.Code.{Code, done, one, block, repeat, branch, onto, code_of_row, code_of, is_leaf}
+use Rattle.wasm_types.specs.Code.{Code, done, one, block, repeat, branch, onto, code_of_row, code_of, is_plain}
 use Rattle.wasm_types.specs.Typing.{Context}
 use Rattle.wasm_types.specs.Validity.{values_of, Passes, Leads}
 use Rattle.wasm_types.proofs.CodeLemmas.{onto-block, onto-loop, onto-if, onto-one, code-next}
@@ -89,9 +89,9 @@ pub if-no-second : (c : Context) (ls : List (List ValType)) (i : Instr) (k : Opt
     → (Leads c (values_of k ∷ ls) (code_of second) [] (values_of k) → ⊥) → Fails a (Step c ls i)
 if-no-second c ls i k first second a is f = if-as c ls i k first second a is (λ s s' st r. f r.3)
 
-pub leaf-step : (c : Context) (ls : List (List ValType)) (i : Instr) (a b : Stack) (r : Result Bool NoMemory) → is_leaf i ≡ true → IfOk r (λ ok. Follows a (Passes c ls i) ok b) → IfOk r (λ ok. Follows a (Step c ls i) ok b)
-leaf-step c ls i a b (Err e) leaf h = tt
-leaf-step c ls i a b (Ok ok) leaf h = subst (λ (z : Code). Follows a (Leads c ls z) ok b) (sym (onto-one i done leaf))
+pub plain-step : (c : Context) (ls : List (List ValType)) (i : Instr) (a b : Stack) (r : Result Bool NoMemory) → is_plain i ≡ true → IfOk r (λ ok. Follows a (Passes c ls i) ok b) → IfOk r (λ ok. Follows a (Step c ls i) ok b)
+plain-step c ls i a b (Err e) plain h = tt
+plain-step c ls i a b (Ok ok) plain h = subst (λ (z : Code). Follows a (Leads c ls z) ok b) (sym (onto-one i done plain))
     (follows-as a b (Passes c ls i) (Leads c ls (one i done)) ok (λ s s' r. (s', r, refl)) (λ s s' r. subst (λ z. Passes c ls i s z) r.2 r.1) h)
 
 -- ---- contents

@@ -1,6 +1,6 @@
 pub mod BodyLemmas
 pub mod CheckLemmas
-pub mod LeafLemmas
+pub mod PlainLemmas
 pub mod LocalsLemmas
 pub mod StackLemmas
 pub mod TypingLemmas

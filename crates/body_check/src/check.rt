@@ -7,7 +7,7 @@ ghost use Rattle.body_check.specs.Labels.{labels_of};
 ghost use Rattle.body_check.specs.Signatures.{context_of};
 ghost use Rattle.body_check.specs.Stacks.{Follows};
 
-use crate::leaf::check_leaf;
+use crate::plain::check_plain;
 use crate::place::Place;
 use crate::stack::Stack;
 use std::alloc::Global;
@@ -57,7 +57,7 @@ fn check_instr(
             stack.push_values(*kind)?;
             Ok(true)
         }
-        _ => check_leaf(alloc, place, labels.as_slice(), stack, instr),
+        _ => check_plain(alloc, place, labels.as_slice(), stack, instr),
     }
 }
 

@@ -3,7 +3,7 @@
 
 mod body;
 mod check;
-mod leaf;
+mod plain;
 mod locals;
 mod place;
 mod spaces;

@@ -4,7 +4,7 @@ use Rattle.std.proofs.lemmas.List.{append-nil}
 use Rattle.wasm_types.specs.declared.module.ValType.{ValType}
 use Rattle.wasm_types.specs.declared.instr.Instr.{Instr, Block', Loop', If'}
 use Rattle.wasm_types.specs.declared.instr.Instr.TheVariants.{Block, Loop, If}
-use Rattle.wasm_types.specs.Code.{Code, done, one, block, repeat, branch, onto, code_of, list_of, is_leaf, nest}
+use Rattle.wasm_types.specs.Code.{Code, done, one, block, repeat, branch, onto, code_of, list_of, is_plain, nest}
 use Rattle.wasm_types.specs.Standing.{Stands, NoneStands}
 use Rattle.wasm_types.specs.Parts.{Then}
 use Rattle.wasm_types.specs.Types.{kind_byte}
@@ -27,16 +27,16 @@ first_at bytes text rest at lt here = ap first (sym (next bytes at lt) ∙ here)
 
 -- ---- plain instructions
 
-plain_is_leaf : (i : Instr) (text : List ℕ) → SpellsPlain text i → is_leaf i ≡ true
-plain_is_leaf (Block' k m row) text p = absurd p.spelled
-plain_is_leaf (Loop' k m row) text p = absurd p.spelled
-plain_is_leaf (If' k m row n row2) text p = absurd p.spelled
-plain_is_leaf _ text p = refl
+spelled_is_plain : (i : Instr) (text : List ℕ) → SpellsPlain text i → is_plain i ≡ true
+spelled_is_plain (Block' k m row) text p = absurd p.spelled
+spelled_is_plain (Loop' k m row) text p = absurd p.spelled
+spelled_is_plain (If' k m row n row2) text p = absurd p.spelled
+spelled_is_plain _ text p = refl
 
 -- a spelled sequence is that of its list
 pub code_of-list_of : (c : Code) (text : List ℕ) → SpellsCode c text → code_of (list_of c) ≡ c
 code_of-list_of done text p = refl
-code_of-list_of (one i rest) text p = onto-one i (code_of (list_of rest)) (plain_is_leaf i p.front p.first) ∙ ap (one i) (code_of-list_of rest p.back p.second)
+code_of-list_of (one i rest) text p = onto-one i (code_of (list_of rest)) (spelled_is_plain i p.front p.first) ∙ ap (one i) (code_of-list_of rest p.back p.second)
 code_of-list_of (block k inner rest) text p = onto-block k (list_of inner) (code_of (list_of rest)) ∙ (let a = code_of-list_of inner p.first.inner p.first.contents in let b = code_of-list_of rest p.back p.second in cc (a, b))
 code_of-list_of (repeat k inner rest) text p = onto-loop k (list_of inner) (code_of (list_of rest)) ∙ (let a = code_of-list_of inner p.first.inner p.first.contents in let b = code_of-list_of rest p.back p.second in cc (a, b))
 code_of-list_of (branch k one_arm other rest) text p =
@@ -51,7 +51,7 @@ single : (Head : List ℕ → Type 0) (text : List ℕ) → Head text → Then H
 single Head text h = record { front = text; back = []; parts = sym (append-nil text); first = h; second = refl }
 
 pub plain_instr : (room : ℕ) (bytes : List ℕ) (at end : ℕ) (i : Instr) → Stands SpellsPlain bytes at end i → Stands (SpellsWithin room) bytes at end (onto i done)
-plain_instr room bytes at end i s = rw (onto-one i done (plain_is_leaf i s.text s.spelled)) (record { text = s.text; spelled = (single (λ t. SpellsPlain t i) s.text s.spelled, omega arith); here = s.here; within = s.within })
+plain_instr room bytes at end i s = rw (onto-one i done (spelled_is_plain i s.text s.spelled)) (record { text = s.text; spelled = (single (λ t. SpellsPlain t i) s.text s.spelled, omega arith); here = s.here; within = s.within })
 
 pub block_instr : (room : ℕ) (bytes : List ℕ) (at end : ℕ) (k : Option ValType) (xs : List Instr) → Stands (EnclosedText 0x02 room) bytes at end (k, code_of xs) → Stands (SpellsWithin room) bytes at end (onto (Block k xs) done)
 block_instr room bytes at end k xs s = subst (λ (c : Code). Stands (SpellsWithin room) bytes at end c) (sym (onto-block k xs done)) (record { text = s.text; spelled = (single (Encloses 0x02 k (SpellsCode (code_of xs))) s.text s.spelled.0, omega (arith, s.spelled.1)); here = s.here; within = s.within })

@@ -9,7 +9,7 @@ use Rattle.wasm_types.specs.declared.ops.BinOp.TheVariants.{Add}
 use Rattle.wasm_types.specs.declared.place.Loc.{Loc}
 use Rattle.wasm_types.specs.Code.{Code, one, onto, code_of_row, code_of, count}
 use Rattle.wasm_types.proofs.CodeLemmas.{code-next}
-use Rattle.wasm_types.specs.Marked.{Marked, Do, leaf}
+use Rattle.wasm_types.specs.Marked.{Marked, Do, plain}
 use Rattle.wasm_types.specs.Small.{IsSmallInstr, IsSmallCode}
 use Rattle.wasm_types.specs.Actions.{Callees, task_of, takes, leaves}
 use Rattle.wasm_types.specs.Locations.{TaskWrites}
@@ -17,7 +17,7 @@ use Rattle.flow_domain.specs.Sliced.{no_calls}
 
 -- ---- one instruction
 
-pub is_do : (m : Bool) (op : Instr) (rest : Marked) → IsSmallInstr op → leaf m op rest ≡ Do m op rest
+pub is_do : (m : Bool) (op : Instr) (rest : Marked) → IsSmallInstr op → plain m op rest ≡ Do m op rest
 is_do m Drop rest h = refl
 is_do m (LocalGet x) rest h = refl
 is_do m (I32Const n) rest h = refl

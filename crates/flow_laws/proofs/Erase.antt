@@ -4,7 +4,7 @@ use Rattle.wasm_types.specs.declared.module.Value.{Value}
 use Rattle.wasm_types.specs.declared.instr.Instr.{Instr}
 use Rattle.wasm_types.specs.declared.instr.Instr as instr
 use Rattle.wasm_types.specs.Code.{Code, done, one, block, repeat, branch, count}
-use Rattle.wasm_types.specs.Marked.{Marked, End, Do, Block, Loop, If, Br, BrIf, BrTable, Return, Unreachable, leaf, marked}
+use Rattle.wasm_types.specs.Marked.{Marked, End, Do, Block, Loop, If, Br, BrIf, BrTable, Return, Unreachable, plain, marked}
 use Rattle.wasm_meaning.specs.Effects.{Fixed, Answer, Gives, Stops, Calls}
 use Rattle.wasm_types.specs.Actions.{callees, takes}
 use Rattle.wasm_meaning.specs.Operations.{number_of}
@@ -123,13 +123,13 @@ same_laps Z F (suc n) ls body h =
     alike-again_of (run Z (below Z F n) (0 ∷ ls) body h) (run Z (below Z F n) (0 ∷ ls) (bare body) h) ((below Z F n).lap ls body)
     ((below Z F n).lap ls (bare body)) (alike_run Z (below Z F n) (same_laps Z F n) body (0 ∷ ls) h) (λ h1. same_laps Z F n ls body h1)
 
-bare_leaf : (m : Bool) (op : Instr) (rest : Marked) → bare (leaf m op rest) ≡ leaf false op (bare rest)
+bare_leaf : (m : Bool) (op : Instr) (rest : Marked) → bare (plain m op rest) ≡ plain false op (bare rest)
 bare_leaf m instr.Return rest = refl
 bare_leaf m _ rest = refl
 
 pub bare_marked : (w : ℕ → Bool) (code : Code) (p : ℕ) → bare (marked w p code) ≡ marked unwatched p code
 bare_marked w done p = refl
-bare_marked w (one op rest) p = bare_leaf (w p) op (marked w (p + 1) rest) ∙ ap (leaf false op) (bare_marked w rest (p + 1))
+bare_marked w (one op rest) p = bare_leaf (w p) op (marked w (p + 1) rest) ∙ ap (plain false op) (bare_marked w rest (p + 1))
 bare_marked w (block kind body rest) p =
     ap₂ {A = Marked} {B = Marked} (λ a b. Block false kind a b) (bare_marked w body (p + 1)) (bare_marked w rest (p + 1 + count body))
 bare_marked w (repeat kind body rest) p =

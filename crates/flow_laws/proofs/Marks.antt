@@ -1,6 +1,6 @@
 -- The marks of a cut: the criterion is watched in it, at one position.
 use Rattle.std.proofs.Common.{◌≡◌, ℕ, zero, suc, ◌+◌, ◌<◌, inr, List, [], ◌∷◌, ◌++◌, Bool, true, false, Option, Some, None, nat_eq, take, drop, length, refl, sym, ap, ap₂, ◌∙◌, subst, arith, true≢false, length-append, eq-eqb}
-use Rattle.wasm_types.specs.Marked.{Marked, End, Do, Block, Loop, If, Br, BrIf, BrTable, Return, Unreachable, size, unmarked, leaf, marked, marks, first_mark}
+use Rattle.wasm_types.specs.Marked.{Marked, End, Do, Block, Loop, If, Br, BrIf, BrTable, Return, Unreachable, size, unmarked, plain, marked, marks, first_mark}
 use Rattle.wasm_types.specs.declared.instr.Instr.{Instr}
 use Rattle.wasm_types.specs.declared.module.ValType.{ValType}
 use Rattle.wasm_types.specs.declared.place.Loc.{Loc}
@@ -90,7 +90,7 @@ count-unmarked (Unreachable m rest) = omega (arith, count-unmarked rest)
 
 -- each instruction stands by its kind
 abbrev pub IsKind : Instr → Type 0
-IsKind op = (m : Bool) (rest : Marked) → leaf m op rest ≡ Do m op rest
+IsKind op = (m : Bool) (rest : Marked) → plain m op rest ≡ Do m op rest
 
 abbrev pub ByKind : Marked → Type 0
 ByKind End = Unit {0}

@@ -5,7 +5,7 @@ use Rattle.wasm_types.specs.declared.instr.Instr as instr
 use Rattle.wasm_types.specs.declared.module.Body.{Body}
 use Rattle.wasm_types.specs.declared.place.Node.{Node}
 use Rattle.wasm_types.specs.Code.{Code, done, one, block, repeat, branch, count, code_of}
-use Rattle.wasm_types.specs.Marked.{Marked, End, Do, Block, Loop, If, Br, BrIf, BrTable, Return, Unreachable, size, leaf, marked, marks}
+use Rattle.wasm_types.specs.Marked.{Marked, End, Do, Block, Loop, If, Br, BrIf, BrTable, Return, Unreachable, size, plain, marked, marks}
 use Rattle.wasm_types.specs.Actions.{Callees}
 use Rattle.wasm_types.specs.Nodes.{Join, named, made}
 use Rattle.wasm_types.specs.Labels.{Label, block_label, loop_label, body_label, arity}
@@ -18,11 +18,11 @@ use Rattle.flow_laws.proofs.Marks.{trues, live_marks, Pointwise, pointwise-split
 
 -- ---- the marks of code that is marked by number
 
-marks_leaf : (m : Bool) (op : Instr) (rest : Marked) → marks (leaf m op rest) ≡ m ∷ marks rest
+marks_leaf : (m : Bool) (op : Instr) (rest : Marked) → marks (plain m op rest) ≡ m ∷ marks rest
 marks_leaf m instr.Return rest = refl
 marks_leaf m _ rest = refl
 
-size_leaf : (m : Bool) (op : Instr) (rest : Marked) → size (leaf m op rest) ≡ 1 + size rest
+size_leaf : (m : Bool) (op : Instr) (rest : Marked) → size (plain m op rest) ≡ 1 + size rest
 size_leaf m instr.Return rest = refl
 size_leaf m _ rest = refl
 

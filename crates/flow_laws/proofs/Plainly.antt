@@ -4,9 +4,9 @@ use Rattle.wasm_types.specs.declared.module.ValType.{ValType}
 use Rattle.wasm_types.specs.declared.module.ValType.TheVariants as type
 use Rattle.wasm_types.specs.declared.instr.Instr.{Instr, Drop, Row_of-Instr, end_of-Instr, more_of-Instr}
 use Rattle.wasm_types.specs.declared.instr.Instr as instr
-use Rattle.wasm_types.specs.Code.{Code, done, one, block, repeat, branch, count, onto, code_of_row, code_of, list_of, is_leaf}
+use Rattle.wasm_types.specs.Code.{Code, done, one, block, repeat, branch, count, onto, code_of_row, code_of, list_of, is_plain}
 use Rattle.wasm_types.specs.Code as sequence
-use Rattle.wasm_types.specs.Marked.{Marked, End, Do, Block, Loop, If, Br, BrIf, BrTable, Return, Unreachable, leaf, marked, unmarked, size}
+use Rattle.wasm_types.specs.Marked.{Marked, End, Do, Block, Loop, If, Br, BrIf, BrTable, Return, Unreachable, plain, marked, unmarked, size}
 use Rattle.wasm_types.proofs.CodeLemmas.{onto-one, onto-block, onto-loop, onto-if}
 use Rattle.wasm_types.specs.Actions.{Callees, takes, leaves}
 use Rattle.wasm_types.specs.Labels.{arity}
@@ -15,10 +15,10 @@ use Rattle.wasm_types.specs.Nodes.{At, Join, named, made}
 use Rattle.flow_domain.specs.Cut.{pick, shown, zero_const, drops, zeros, filler, result_of, cut}
 use Rattle.flow_laws.proofs.Marks.{IsKind, ByKind}
 
--- each instruction that holds no others is a leaf
+-- each instruction that holds no others is a plain
 abbrev pub Leafy : Code → Type 0
 Leafy done = Unit {0}
-Leafy (one op rest) = (is_leaf op ≡ true) × Leafy rest
+Leafy (one op rest) = (is_plain op ≡ true) × Leafy rest
 Leafy (block kind body rest) = Leafy body × Leafy rest
 Leafy (repeat kind body rest) = Leafy body × Leafy rest
 Leafy (branch kind x y rest) = Leafy x × Leafy y × Leafy rest
@@ -55,7 +55,7 @@ code_back (branch k x y rest) l =
 -- instructions that go on to the next one stand as such
 abbrev pub Plainly : Marked → Type 0
 Plainly End = Unit {0}
-Plainly (Do m op rest) = IsKind op × (is_leaf op ≡ true) × Plainly rest
+Plainly (Do m op rest) = IsKind op × (is_plain op ≡ true) × Plainly rest
 Plainly (Block m kind body rest) = Plainly body × Plainly rest
 Plainly (Loop m kind body rest) = Plainly body × Plainly rest
 Plainly (If m kind x y rest) = Plainly x × Plainly y × Plainly rest
@@ -89,7 +89,7 @@ leafy_of (BrTable m labels other rest) s = (refl, leafy_of rest s)
 leafy_of (Return m rest) s = (refl, leafy_of rest s)
 leafy_of (Unreachable m rest) s = (refl, leafy_of rest s)
 
-plainly_leaf : (m : Bool) (op : Instr) (rest : Marked) → is_leaf op ≡ true → Plainly rest → Plainly (leaf m op rest)
+plainly_leaf : (m : Bool) (op : Instr) (rest : Marked) → is_plain op ≡ true → Plainly rest → Plainly (plain m op rest)
 plainly_leaf m instr.Unreachable rest l s = s
 plainly_leaf m instr.Return rest l s = s
 plainly_leaf m (instr.Br k) rest l s = s

@@ -4,7 +4,7 @@ use Rattle.wasm_types.specs.declared.module.ValType.{ValType}
 use Rattle.wasm_types.specs.declared.instr.Instr.{Instr}
 use Rattle.wasm_types.specs.declared.instr.Instr as instr
 use Rattle.wasm_types.specs.Code.{Code, done, one, block, repeat, branch, count}
-use Rattle.wasm_types.specs.Marked.{Marked, End, Do, Block, Loop, If, Br, BrIf, BrTable, Return, Unreachable, leaf, marked}
+use Rattle.wasm_types.specs.Marked.{Marked, End, Do, Block, Loop, If, Br, BrIf, BrTable, Return, Unreachable, plain, marked}
 use Rattle.wasm_types.specs.Labels.{arity}
 use Rattle.wasm_types.specs.Funcs.{unwatched}
 
@@ -25,7 +25,7 @@ pub arity_small : (kind : Option ValType) → arity kind ≤ 1
 arity_small None = omega arith
 arity_small (Some t) = omega arith
 
-silent_leaf : (op : Instr) (rest : Marked) → Silent rest → Silent (leaf false op rest)
+silent_leaf : (op : Instr) (rest : Marked) → Silent rest → Silent (plain false op rest)
 silent_leaf instr.Unreachable rest s = refl
 silent_leaf instr.Return rest s = refl
 silent_leaf (instr.Br l) rest s = refl

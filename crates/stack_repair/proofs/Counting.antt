@@ -4,7 +4,7 @@ use Rattle.wasm_types.specs.declared.module.ValType.{ValType}
 use Rattle.wasm_types.specs.declared.instr.Instr.{Instr}
 use Rattle.wasm_types.specs.declared.instr.Instr as instr
 use Rattle.wasm_types.specs.Code.{Code, done, one, block, repeat, branch, count, nest}
-use Rattle.wasm_types.specs.Marked.{Marked, End, Do, Block, Loop, If, Br, BrIf, BrTable, Return, Unreachable, leaf, marked, unmarked, size}
+use Rattle.wasm_types.specs.Marked.{Marked, End, Do, Block, Loop, If, Br, BrIf, BrTable, Return, Unreachable, plain, marked, unmarked, size}
 use Rattle.wasm_types.specs.Actions.{Callees, takes, leaves}
 use Rattle.wasm_types.specs.Labels.{arity}
 use Rattle.wasm_types.specs.declared.place.Node.{Node}
@@ -26,17 +26,17 @@ count-unmarked (Return m rest) = omega (arith, count-unmarked rest)
 count-unmarked (Unreachable m rest) = omega (arith, count-unmarked rest)
 
 -- marks change nothing
-unmarked-leaf : (m : Bool) (op : Instr) (rest : Marked) → unmarked (leaf m op rest) ≡ one op (unmarked rest)
-unmarked-leaf m (instr.Br l) rest = refl
-unmarked-leaf m (instr.BrIf l) rest = refl
-unmarked-leaf m (instr.BrTable labels other) rest = refl
-unmarked-leaf m instr.Return rest = refl
-unmarked-leaf m instr.Unreachable rest = refl
-unmarked-leaf m _ rest = refl
+unmarked-plain : (m : Bool) (op : Instr) (rest : Marked) → unmarked (plain m op rest) ≡ one op (unmarked rest)
+unmarked-plain m (instr.Br l) rest = refl
+unmarked-plain m (instr.BrIf l) rest = refl
+unmarked-plain m (instr.BrTable labels other) rest = refl
+unmarked-plain m instr.Return rest = refl
+unmarked-plain m instr.Unreachable rest = refl
+unmarked-plain m _ rest = refl
 
 pub unmarked-marked : (w : ℕ → Bool) (p : ℕ) (c : Code) → unmarked (marked w p c) ≡ c
 unmarked-marked w p done = refl
-unmarked-marked w p (one op rest) = unmarked-leaf (w p) op (marked w (p + 1) rest) ∙ ap (one op) (unmarked-marked w (p + 1) rest)
+unmarked-marked w p (one op rest) = unmarked-plain (w p) op (marked w (p + 1) rest) ∙ ap (one op) (unmarked-marked w (p + 1) rest)
 unmarked-marked w p (block kind body rest) =
     ap (λ z. block kind z (unmarked (marked w (p + 1 + count body) rest))) (unmarked-marked w (p + 1) body) ∙ ap (block kind body) (unmarked-marked w (p + 1 + count body) rest)
 unmarked-marked w p (repeat kind body rest) =

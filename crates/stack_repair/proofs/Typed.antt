@@ -6,7 +6,7 @@ use Rattle.wasm_types.specs.declared.module.ValType.TheVariants.{I32}
 use Rattle.wasm_types.specs.declared.instr.Instr.{Instr}
 use Rattle.wasm_types.specs.declared.instr.Instr as instr
 use Rattle.wasm_types.specs.Code.{Code, done, one, block, repeat, branch, count}
-use Rattle.wasm_types.specs.Marked.{Marked, End, Do, Block, Loop, If, Br, BrIf, BrTable, Return, Unreachable, leaf, marked, unmarked, size}
+use Rattle.wasm_types.specs.Marked.{Marked, End, Do, Block, Loop, If, Br, BrIf, BrTable, Return, Unreachable, plain, marked, unmarked, size}
 use Rattle.wasm_types.specs.Typing.{Context, Types}
 use Rattle.wasm_types.specs.Validity.{values_of, Leads}
 use Rattle.wasm_types.specs.Subset.{IsIntegerKind, IsIntegerCode}
@@ -68,7 +68,7 @@ ByKind (BrTable m labels other rest) = ByKind rest
 ByKind (Return m rest) = ByKind rest
 ByKind (Unreachable m rest) = ByKind rest
 
-leaf_by_kind : (m : Bool) (op : Instr) (rest : Marked) → ByKind rest → ByKind (leaf m op rest)
+leaf_by_kind : (m : Bool) (op : Instr) (rest : Marked) → ByKind rest → ByKind (plain m op rest)
 leaf_by_kind m (instr.Br l) rest h = h
 leaf_by_kind m (instr.BrIf l) rest h = h
 leaf_by_kind m (instr.BrTable labels other) rest h = h

@@ -8,7 +8,7 @@ use Rattle.wasm_types.specs.declared.module.ValType.{ValType}
 use Rattle.wasm_types.specs.declared.instr.Instr.{Instr, Block', Loop', If'}
 use Rattle.wasm_types.specs.declared.instr.Instr.TheVariants.{Block, Loop, If}
 use Rattle.wasm_types.specs.declared.instr.Instr.TheViews.{the_lemmas}
-use Rattle.wasm_types.specs.Code.{Code, done, block, repeat, branch, onto, code_of_row, code_of, is_leaf, count}
+use Rattle.wasm_types.specs.Code.{Code, done, block, repeat, branch, onto, code_of_row, code_of, is_plain, count}
 use Rattle.wasm_types.specs.Types.{kind_byte}
 use Rattle.wasm_types.specs.Plain.{Immediates, nothing, address, never, opcode, immediates, float_plain, float_immediates}
 use Rattle.wasm_types.specs.Canon.{canon_plain, else_part, canon_code}
@@ -95,11 +95,11 @@ if_text i k xs ys us vs e f g =
     ∙ ap (λ (zs : List Instr). 0x04 ∷ kind_byte k ∷ canon_code (code_of xs) ++ (else_part (canon_code (code_of zs)) ++ 0x0B ∷ [])) g
     ∙ sym (append-nil (0x04 ∷ kind_byte k ∷ canon_code (code_of xs) ++ (else_part (canon_code (code_of ys)) ++ 0x0B ∷ []))) ∙ ap canon_code (sym (onto-if k xs ys done)) ∙ ap (λ (j : Instr). canon_code (onto j done)) (sym e)
 
-pub leaf_text : (i : Instr) → is_leaf i ≡ true → canon_plain i ≡ canon_code (onto i done)
-leaf_text i leaf = sym (append-nil (canon_plain i)) ∙ ap canon_code (sym (onto-one i done leaf))
+pub plain_text : (i : Instr) → is_plain i ≡ true → canon_plain i ≡ canon_code (onto i done)
+plain_text i plain = sym (append-nil (canon_plain i)) ∙ ap canon_code (sym (onto-one i done plain))
 
-pub leaf_proper : (i : Instr) → is_leaf i ≡ true → ProperCode (onto i done) → ProperImmediates (immediates i)
-leaf_proper i leaf h = let g = subst ProperCode (onto-one i done leaf) h in g.0
+pub plain_proper : (i : Instr) → is_plain i ≡ true → ProperCode (onto i done) → ProperImmediates (immediates i)
+plain_proper i plain h = let g = subst ProperCode (onto-one i done plain) h in g.0
 
 -- ---- parts are as short as the whole
 
@@ -109,8 +109,8 @@ rest_short i rest lt = omega (arith, lt, ap length (canon-onto i rest), length-a
 pub head_short : (i : Instr) (rest : Code) → length (canon_code (onto i rest)) < 2 ^ 32 → length (canon_code (onto i done)) < 2 ^ 32
 head_short i rest lt = omega (arith, lt, ap length (canon-onto i rest), length-append (canon_code (onto i done)) (canon_code rest))
 
-pub leaf_short : (i : Instr) → is_leaf i ≡ true → length (canon_code (onto i done)) < 2 ^ 32 → length (canon_plain i) < 2 ^ 32
-leaf_short i leaf lt = omega (arith, lt, ap length (leaf_text i leaf))
+pub plain_short : (i : Instr) → is_plain i ≡ true → length (canon_code (onto i done)) < 2 ^ 32 → length (canon_plain i) < 2 ^ 32
+plain_short i plain lt = omega (arith, lt, ap length (plain_text i plain))
 
 enclosed_short : (op k : ℕ) (inner all : List ℕ) → (op ∷ k ∷ inner ++ 0x0B ∷ []) ≡ all → length all < 2 ^ 32 → length inner < 2 ^ 32
 enclosed_short op k inner all e lt = omega (arith, ap length e, length-append inner (0x0B ∷ []))

@@ -21,7 +21,7 @@ use Rattle.wasm_types.specs.declared.run.Ended.TheVariants as ended
 use Rattle.wasm_types.specs.declared.instr.Instr.{Instr}
 use Rattle.wasm_types.specs.declared.instr.Instr as instr
 use Rattle.wasm_types.specs.Code.{Code, done, one, block, repeat, branch, count, code_of}
-use Rattle.wasm_types.specs.Marked.{Marked, End, Do, Block, Loop, If, Br, BrIf, BrTable, Return, Unreachable, leaf, marked}
+use Rattle.wasm_types.specs.Marked.{Marked, End, Do, Block, Loop, If, Br, BrIf, BrTable, Return, Unreachable, plain, marked}
 use Rattle.wasm_types.specs.Spaces.{global_import, memory_import, imported, func_import, import_count, func_types, type_numbered, type_of_func, body_of, globals_of, HasBody, local_types}
 use Rattle.wasm_types.specs.Typing.{Context}
 use Rattle.wasm_types.specs.Validity.{Passes, Leads, IsValid}
@@ -55,7 +55,7 @@ known m f F e = go (slice_get (func_types m) f) refl e
     go (Some t) at e = slice_get_within (func_types m) f t at
 
 old_leaf : (c : Context) (ls : List (List ValType)) (op : Instr) (s s' : List ValType) (mark : Bool) (rest : Marked) → Passes c ls op s s'
-    → AllOld c.inside rest → AllOld c.inside (leaf mark op rest)
+    → AllOld c.inside rest → AllOld c.inside (plain mark op rest)
 old_leaf c ls (instr.Br l) s s' mark rest h o = tt
 old_leaf c ls (instr.BrIf l) s s' mark rest h o = o
 old_leaf c ls (instr.BrTable labels other) s s' mark rest h o = tt

@@ -20,18 +20,18 @@ pub data Marked : Type 0 where
   Unreachable : (mark : Bool) (rest : Marked) → Marked
 
 -- an instruction that holds no others, by its kind
-abbrev pub leaf : Bool → Instr → Marked → Marked
-leaf mark (instr.Br label) rest = Br mark label rest
-leaf mark (instr.BrIf label) rest = BrIf mark label rest
-leaf mark (instr.BrTable labels other) rest = BrTable mark labels other rest
-leaf mark instr.Return rest = Return mark rest
-leaf mark instr.Unreachable rest = Unreachable mark rest
-leaf mark op rest = Do mark op rest
+abbrev pub plain : Bool → Instr → Marked → Marked
+plain mark (instr.Br label) rest = Br mark label rest
+plain mark (instr.BrIf label) rest = BrIf mark label rest
+plain mark (instr.BrTable labels other) rest = BrTable mark labels other rest
+plain mark instr.Return rest = Return mark rest
+plain mark instr.Unreachable rest = Unreachable mark rest
+plain mark op rest = Do mark op rest
 
 -- the sequence whose first position is p, with these positions watched
 abbrev pub marked : (ℕ → Bool) → ℕ → Code → Marked
 marked watched p done = End
-marked watched p (one op rest) = leaf (watched p) op (marked watched (p + 1) rest)
+marked watched p (one op rest) = plain (watched p) op (marked watched (p + 1) rest)
 marked watched p (block kind body rest) = Block (watched p) kind (marked watched (p + 1) body) (marked watched (p + 1 + count body) rest)
 marked watched p (repeat kind body rest) = Loop (watched p) kind (marked watched (p + 1) body) (marked watched (p + 1 + count body) rest)
 marked watched p (branch kind yes_arm no_arm rest) =

@@ -3,7 +3,7 @@ use Rattle.std.proofs.Common.{◌≡◌, ◌<◌, ℕ, ◌+◌, true, List, leng
 use Rattle.std.specs.Prelude.{◌↔◌}
 use Rattle.wasm_types.specs.declared.instr.FloatInstr.{FloatInstr}
 use Rattle.wasm_types.specs.declared.instr.Instr.{Instr, Block', Loop', If', Float}
-use Rattle.wasm_types.specs.Code.{Code, done, onto, code_of, code_of_row, is_leaf}
+use Rattle.wasm_types.specs.Code.{Code, done, onto, code_of, code_of_row, is_plain}
 use Rattle.wasm_types.specs.Subset.{IsIntegerCode, HasNoFloatIn, HasNoFloat}
 use Rattle.wasm_types.specs.declared.module.Module.{Module}
 use Rattle.wasm_types.specs.declared.place.Part.TheVariants as part
@@ -24,13 +24,13 @@ pub integer-next : (xs : List Instr) (n : ℕ) (x : Instr) → n < length xs →
 integer-next xs n x lt is = rw (code-next xs n x lt is) (integer-onto x (code_of (drop (n + 1) xs)))
 
 -- an instruction that holds no others, and is no float instruction
-pub integer-leaf : (i : Instr) → is_leaf i ≡ true → ((f : FloatInstr) → i ≡ Float f → ⊥) → IsIntegerCode (onto i done)
+pub integer-plain : (i : Instr) → is_plain i ≡ true → ((f : FloatInstr) → i ≡ Float f → ⊥) → IsIntegerCode (onto i done)
 unfolding onto code_of_row
-integer-leaf (Block' k m inner) leaf no_float = absurd cc
-integer-leaf (Loop' k m inner) leaf no_float = absurd cc
-integer-leaf (If' k m first n second) leaf no_float = absurd cc
-integer-leaf (Float f) leaf no_float = absurd (no_float f refl)
-integer-leaf _ leaf no_float = (tt, tt)
+integer-plain (Block' k m inner) plain no_float = absurd cc
+integer-plain (Loop' k m inner) plain no_float = absurd cc
+integer-plain (If' k m first n second) plain no_float = absurd cc
+integer-plain (Float f) plain no_float = absurd (no_float f refl)
+integer-plain _ plain no_float = (tt, tt)
 
 pub ruleset integer_steps = (code_steps, count-onto)
 

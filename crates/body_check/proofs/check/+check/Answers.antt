@@ -1,13 +1,13 @@
 use Rattle.std.proofs.Common.{◌≡◌, ◌<◌, ◌+◌, ◌∙◌, List, length, drop, true, false, refl, arith, sym, subst}
 use Rattle.std.proofs.Math.ListN.{drop_of_length-le}
 use Rattle.wasm_types.specs.declared.instr.Instr.{Instr}
-use Rattle.wasm_types.specs.Code.{Code, code_of, is_leaf}
+use Rattle.wasm_types.specs.Code.{Code, code_of, is_plain}
 use Rattle.wasm_types.specs.Validity.{Leads}
-use Rattle.wasm_types.proofs.CodeLemmas.{leaf_is, count-next, code-next}
+use Rattle.wasm_types.proofs.CodeLemmas.{plain_is, count-next, code-next}
 use Rattle.body_check.specs.Labels.{labels_of}
 use Rattle.body_check.specs.Signatures.{context_of}
 use Rattle.body_check.specs.Stacks.{Fails, Follows, Exact}
-use Rattle.body_check.proofs.CheckLemmas.{code-follows, code-fails, done-follows, if-step, if-no-number, leaf-step, moved, valid-as, passes-as}
+use Rattle.body_check.proofs.CheckLemmas.{code-follows, code-fails, done-follows, if-step, if-no-number, plain-step, moved, valid-as, passes-as}
 use Rattle.body_check.proofs.check.+check.Goals as goal
 
 pub check_code-check_instr-requires : goal.check_code-check_instr-requires
@@ -57,8 +57,8 @@ check_instr-returns-in_ok-push_values-in-If-clause-follows t c =
 
 pub check_instr-returns-in_default : goal.check_instr-returns-in_default
 check_instr-returns-in_default t c =
-    let leaf : is_leaf c.args.instr.now ≡ true = leaf_is _ c.in_default.not-Block c.in_default.not-Loop c.in_default.not-If in
+    let plain : is_plain c.args.instr.now ≡ true = plain_is _ c.in_default.not-Block c.in_default.not-Loop c.in_default.not-If in
     record {
       labels = refl;
-      follows = leaf-step (context_of c.args.place.now) (labels_of c.args.labels.now.items) c.args.instr.now c.args.stack.now c.check_leaf.new.stack c.check_leaf.result leaf (passes-as (context_of c.args.place.now) c.as_slice-in_default.result.now c.args.labels.now.items c.args.instr.now c.args.stack.now c.check_leaf.new.stack c.check_leaf.result c.as_slice-in_default.ensures.value c.check_leaf.ensures);
+      follows = plain-step (context_of c.args.place.now) (labels_of c.args.labels.now.items) c.args.instr.now c.args.stack.now c.check_plain.new.stack c.check_plain.result plain (passes-as (context_of c.args.place.now) c.as_slice-in_default.result.now c.args.labels.now.items c.args.instr.now c.args.stack.now c.check_plain.new.stack c.check_plain.result c.as_slice-in_default.ensures.value c.check_plain.ensures);
     }

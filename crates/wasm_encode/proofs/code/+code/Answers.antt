@@ -1,9 +1,9 @@
 use Rattle.std.proofs.Common.{◌≡◌, ◌<◌, ◌^◌, length, drop, ap, ◌∙◌, subst, ◌+◌, true, arith}
-use Rattle.wasm_types.specs.Code.{Code, done, onto, code_of, is_leaf}
-use Rattle.wasm_types.proofs.CodeLemmas.{count-next, code-next, leaf_is}
+use Rattle.wasm_types.specs.Code.{Code, done, onto, code_of, is_plain}
+use Rattle.wasm_types.proofs.CodeLemmas.{count-next, code-next, plain_is}
 use Rattle.wasm_types.specs.Canon.{canon_code}
 use Rattle.wasm_types.specs.WellFormed.{ProperCode}
-use Rattle.wasm_encode.proofs.CodeLemmas.{canon-onto, proper-onto, piece, finish, block_text, loop_text, if_text, leaf_text, leaf_proper, else-some, one_more_byte, rest_short, leaf_short, head_short, in_block, in_loop, in_if}
+use Rattle.wasm_encode.proofs.CodeLemmas.{canon-onto, proper-onto, piece, finish, block_text, loop_text, if_text, plain_text, plain_proper, else-some, one_more_byte, rest_short, plain_short, head_short, in_block, in_loop, in_if}
 use Rattle.wasm_encode.proofs.code.+code.Goals as goal
 
 pub write_code-write_instr-requires : goal.write_code-write_instr-requires
@@ -48,8 +48,8 @@ write_instr-write_if-requires t c =
 
 pub write_instr-write_plain-requires : goal.write_instr-write_plain-requires
 write_instr-write_plain-requires t c =
-    let leaf : is_leaf c.args.instr.now ≡ true = leaf_is _ c.in_default.not-Block c.in_default.not-Loop c.in_default.not-If in
-    record { proper = leaf_proper c.args.instr.now leaf c.requires.proper; short = leaf_short c.args.instr.now leaf c.requires.short }
+    let plain : is_plain c.args.instr.now ≡ true = plain_is _ c.in_default.not-Block c.in_default.not-Loop c.in_default.not-If in
+    record { proper = plain_proper c.args.instr.now plain c.requires.proper; short = plain_short c.args.instr.now plain c.requires.short }
 
 pub write_instr-returns-in-Block : goal.write_instr-returns-in-Block
 write_instr-returns-in-Block t c = finish c.write_enclosed.result _ _ _ _ (block_text c.args.instr.now _ _ _ c.in-Block.is c.as_slice.ensures) c.write_enclosed.ensures
@@ -62,5 +62,5 @@ write_instr-returns-in-If t c = finish c.write_if.result _ _ _ _ (if_text c.args
 
 pub write_instr-returns-in_default : goal.write_instr-returns-in_default
 write_instr-returns-in_default t c =
-    let leaf : is_leaf c.args.instr.now ≡ true = leaf_is _ c.in_default.not-Block c.in_default.not-Loop c.in_default.not-If in
-    finish c.write_plain.result _ _ _ _ (leaf_text c.args.instr.now leaf) c.write_plain.ensures
+    let plain : is_plain c.args.instr.now ≡ true = plain_is _ c.in_default.not-Block c.in_default.not-Loop c.in_default.not-If in
+    finish c.write_plain.result _ _ _ _ (plain_text c.args.instr.now plain) c.write_plain.ensures

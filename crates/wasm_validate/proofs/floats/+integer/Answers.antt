@@ -1,6 +1,6 @@
 use Rattle.std.proofs.Common.{◌<◌, length, arith, sym, refl, true≢false}
-use Rattle.wasm_types.proofs.CodeLemmas.{leaf_is, count-next}
-use Rattle.wasm_validate.proofs.FloatLemmas.{integer-next, integer-leaf}
+use Rattle.wasm_types.proofs.CodeLemmas.{plain_is, count-next}
+use Rattle.wasm_validate.proofs.FloatLemmas.{integer-next, integer-plain}
 use Rattle.wasm_validate.proofs.floats.+integer.Goals as goal
 
 pub is_integer_code-is_integer_instr-requires : goal.is_integer_code-is_integer_instr-requires
@@ -28,5 +28,5 @@ is_integer_code-loop-instr-preserved t c =
 
 pub is_integer_instr-returns-in_default : goal.is_integer_instr-returns-in_default
 is_integer_instr-returns-in_default t c =
-    let leaf = leaf_is c.args.instr.now c.in_default.not-Block c.in_default.not-Loop c.in_default.not-If in
-    (λ h. integer-leaf c.args.instr.now leaf c.in_default.not-Float, λ h. refl)
+    let plain = plain_is c.args.instr.now c.in_default.not-Block c.in_default.not-Loop c.in_default.not-If in
+    (λ h. integer-plain c.args.instr.now plain c.in_default.not-Float, λ h. refl)

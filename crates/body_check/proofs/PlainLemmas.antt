@@ -81,8 +81,8 @@ pub br_table-differ : (c : Context) (ls : List (List ValType)) (some : List ℕ)
 br_table-differ c ls some l t a is differ = λ s s' st r. let same : r.0 ≡ t = cc in differ (subst (λ (z : List ValType). All (λ k. slice_get ls k ≡ Some z) some) same r.3)
 
 -- what takes some and leaves some
-abbrev pub Plain : Context → Instr → List ValType → List ValType → Type 0
-Plain c i s s' = (t l r : List ValType) × Types c i t l × (s ≡ t ++ r) × (s' ≡ l ++ r)
+abbrev pub ByTypes : Context → Instr → List ValType → List ValType → Type 0
+ByTypes c i s s' = (t l r : List ValType) × Types c i t l × (s ≡ t ++ r) × (s' ≡ l ++ r)
 
 pub drop-follows : (c : Context) (ls : List (List ValType)) (a b : Stack) (ok : Bool) → Follows a PopsOne ok b → Follows a (Passes c ls Drop) ok b
 drop-follows c ls a b ok h = follows-as a b PopsOne (Passes c ls Drop) ok
@@ -96,38 +96,38 @@ select-follows c ls a b ok h = follows-as a b (Selects I32) (Passes c ls Select)
     (λ s s' r. (r.3.0, r.2, r.4 ∙ ap (λ z. z ++ r.2) r.3.1.0, r.5 ∙ ap (λ z. z ++ r.2) r.3.1.1))
     h
 
-plain-follows : (c : Context) (i : Instr) (f : Signature) (a b : Stack) (ok : Bool) → HasSignature c i (Some f) → Follows a (Turns (reverse f.takes.items) (values_of f.leaves)) ok b → Follows a (Plain c i) ok b
-plain-follows c i f a b ok is h = follows-as a b (Turns (reverse f.takes.items) (values_of f.leaves)) (Plain c i) ok
+types-follow : (c : Context) (i : Instr) (f : Signature) (a b : Stack) (ok : Bool) → HasSignature c i (Some f) → Follows a (Turns (reverse f.takes.items) (values_of f.leaves)) ok b → Follows a (ByTypes c i) ok b
+types-follow c i f a b ok is h = follows-as a b (Turns (reverse f.takes.items) (values_of f.leaves)) (ByTypes c i) ok
     (λ s s' r. (reverse f.takes.items, values_of f.leaves, r.0, (is (reverse f.takes.items) (values_of f.leaves)).1 (refl, refl), r.1, r.2))
     (λ s s' r. let e = (is r.0 r.1).0 r.3 in (r.2, r.4 ∙ ap (λ z. z ++ r.2) e.0, r.5 ∙ ap (λ z. z ++ r.2) e.1))
     h
 
 -- an instruction that neither transfers control nor takes any type
-pub record IsPlain (i : Instr) : Type 0 where
+pub record GoesByTypes (i : Instr) : Type 0 where
   pub no_unreachable : i ≡ Unreachable → ⊥
   pub no_return : i ≡ Return → ⊥
   pub no_br : (l : ℕ) → i ≡ Br l → ⊥
   pub no_br_if : (l : ℕ) → i ≡ BrIf l → ⊥
   pub no_br_table : (some : List ℕ) (l : ℕ) → i ≡ BrTable some l → ⊥
 
-plain-passes : (c : Context) (ls : List (List ValType)) (i : Instr) → IsPlain i → (s s' : List ValType) → Passes c ls i s s' ↔ Plain c i s s'
-plain-passes c ls Unreachable p s s' = absurd (p.no_unreachable refl)
-plain-passes c ls Return p s s' = absurd (p.no_return refl)
-plain-passes c ls (Br l) p s s' = absurd (p.no_br l refl)
-plain-passes c ls (BrIf l) p s s' = absurd (p.no_br_if l refl)
-plain-passes c ls (BrTable some l) p s s' = absurd (p.no_br_table some l refl)
-plain-passes c ls _ p s s' = (λ h. h, λ h. h)
+types-pass : (c : Context) (ls : List (List ValType)) (i : Instr) → GoesByTypes i → (s s' : List ValType) → Passes c ls i s s' ↔ ByTypes c i s s'
+types-pass c ls Unreachable p s s' = absurd (p.no_unreachable refl)
+types-pass c ls Return p s s' = absurd (p.no_return refl)
+types-pass c ls (Br l) p s s' = absurd (p.no_br l refl)
+types-pass c ls (BrIf l) p s s' = absurd (p.no_br_if l refl)
+types-pass c ls (BrTable some l) p s s' = absurd (p.no_br_table some l refl)
+types-pass c ls _ p s s' = (λ h. h, λ h. h)
 
-pub other-follows : (c : Context) (ls : List (List ValType)) (i : Instr) (o : Option Signature) (f : Signature) (takes : List ValType) (a b : Stack) (r : Result Bool NoMemory) → IsPlain i → HasSignature c i o → o ≡ Some f → takes ≡ f.takes.items
+pub other-follows : (c : Context) (ls : List (List ValType)) (i : Instr) (o : Option Signature) (f : Signature) (takes : List ValType) (a b : Stack) (r : Result Bool NoMemory) → GoesByTypes i → HasSignature c i o → o ≡ Some f → takes ≡ f.takes.items
     → IfOk r (λ ok. Follows a (Turns (reverse takes) (values_of f.leaves)) ok b) → IfOk r (λ ok. Follows a (Passes c ls i) ok b)
 other-follows c ls i o f takes a b (Err e) p is some same h = tt
 other-follows c ls i o f takes a b (Ok ok) p is some same h =
     let turns = subst (λ (z : List ValType). Follows a (Turns (reverse z) (values_of f.leaves)) ok b) same h in
-    follows-as a b (Plain c i) (Passes c ls i) ok (λ s s' q. (plain-passes c ls i p s s').1 q) (λ s s' q. (plain-passes c ls i p s s').0 q)
-    (plain-follows c i f a b ok (subst (HasSignature c i) some is) turns)
+    follows-as a b (ByTypes c i) (Passes c ls i) ok (λ s s' q. (types-pass c ls i p s s').1 q) (λ s s' q. (types-pass c ls i p s s').0 q)
+    (types-follow c i f a b ok (subst (HasSignature c i) some is) turns)
 
-pub other-fails : (c : Context) (ls : List (List ValType)) (i : Instr) (o : Option Signature) (a : Stack) → IsPlain i → HasSignature c i o → o ≡ None → Fails a (Passes c ls i)
-other-fails c ls i o a p is none = λ s s' st q. let r = (plain-passes c ls i p s s').0 q in subst (HasSignature c i) none is r.0 r.1 r.3
+pub other-fails : (c : Context) (ls : List (List ValType)) (i : Instr) (o : Option Signature) (a : Stack) → GoesByTypes i → HasSignature c i o → o ≡ None → Fails a (Passes c ls i)
+other-fails c ls i o a p is none = λ s s' st q. let r = (types-pass c ls i p s s').0 q in subst (HasSignature c i) none is r.0 r.1 r.3
 
 -- what was answered for the instruction that is there
 pub ok-follows : (c : Context) (ls : List (List ValType)) (R : List ValType → List ValType → Type 0) (a b : Stack) (r : Result Bool NoMemory) (i j : Instr) → i ≡ j

@@ -6,8 +6,8 @@ use Rattle.wasm_types.specs.Validity.{values_of}
 use Rattle.body_check.specs.Labels.{labels_of}
 use Rattle.body_check.specs.Signatures.{context_of}
 use Rattle.body_check.specs.Stacks.{Turns, Selects}
-use Rattle.body_check.proofs.LeafLemmas.{label-known, label-none, label-carries, all-as, at-instr, br_if-follows, br_if-none, br_table-follows, br_table-none, br_table-differ, drop-follows, select-follows, IsPlain, other-follows, other-fails, ok-follows, fails-at}
-use Rattle.body_check.proofs.leaf.check_leaf.Goals as goal
+use Rattle.body_check.proofs.PlainLemmas.{label-known, label-none, label-carries, all-as, at-instr, br_if-follows, br_if-none, br_table-follows, br_table-none, br_table-differ, drop-follows, select-follows, GoesByTypes, other-follows, other-fails, ok-follows, fails-at}
+use Rattle.body_check.proofs.plain.check_plain.Goals as goal
 
 pub returns-in-Some-label : goal.returns-in-Some-label
 returns-in-Some-label c =
@@ -46,10 +46,10 @@ returns-in-Select c = ok-follows (context_of c.args.place.now) (labels_of c.args
 
 pub returns-in-Some-2 : goal.returns-in-Some-2
 returns-in-Some-2 c =
-    let plain : IsPlain c.args.instr.now = record { no_unreachable = c.in_default.not-Unreachable; no_return = c.in_default.not-Return; no_br = c.in_default.not-Br; no_br_if = c.in_default.not-BrIf; no_br_table = c.in_default.not-BrTable } in
+    let plain : GoesByTypes c.args.instr.now = record { no_unreachable = c.in_default.not-Unreachable; no_return = c.in_default.not-Return; no_br = c.in_default.not-Br; no_br_if = c.in_default.not-BrIf; no_br_table = c.in_default.not-BrTable } in
     other-follows (context_of c.args.place.now) (labels_of c.args.labels.now) c.args.instr.now c.in_ok-found-in_default.field-0 c.in-Some-2.found c.as_slice-in-Some-2.result.now c.args.stack.now c.turn.new.self c.turn.result plain c.in_ok-found-in_default.ensures c.in-Some-2.is c.as_slice-in-Some-2.ensures c.turn.ensures
 
 pub returns-in-None-2 : goal.returns-in-None-2
 returns-in-None-2 c =
-    let plain : IsPlain c.args.instr.now = record { no_unreachable = c.in_default.not-Unreachable; no_return = c.in_default.not-Return; no_br = c.in_default.not-Br; no_br_if = c.in_default.not-BrIf; no_br_table = c.in_default.not-BrTable } in
+    let plain : GoesByTypes c.args.instr.now = record { no_unreachable = c.in_default.not-Unreachable; no_return = c.in_default.not-Return; no_br = c.in_default.not-Br; no_br_if = c.in_default.not-BrIf; no_br_table = c.in_default.not-BrTable } in
     other-fails (context_of c.args.place.now) (labels_of c.args.labels.now) c.args.instr.now c.in_ok-found-in_default.field-0 c.args.stack.now plain c.in_ok-found-in_default.ensures c.in-None-2.is
