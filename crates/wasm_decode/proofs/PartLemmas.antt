@@ -114,6 +114,12 @@ behind_stands P Q byte bytes at end v w lt is whole_text s = record {
   within = s.within;
 }
 
+pub behind_both : {A B C : Type 0} (P : Rule A) (Q : Rule B) (R : Rule C) (byte : ℕ) (bytes : List ℕ) (at mid end : ℕ) (v : A) (w : B) (u : C) → at < length bytes
+    → get_or bytes at 0 ≡ byte → ((text : List ℕ) → Behind byte (λ rest. Both P Q rest (v, w)) text → R text u)
+    → Stands P bytes (at + 1) mid v → Stands Q bytes mid end w → Stands R bytes at end u
+behind_both P Q R byte bytes at mid end v w u lt is whole_text s t =
+    behind_stands (Both P Q) R byte bytes at end (v, w) u lt is whole_text (both_stands P Q bytes (at + 1) mid end v w s t)
+
 pub behind_opened : (R : List ℕ → Type 0) (byte : ℕ) (bytes : List ℕ) (at : ℕ) (text rest : List ℕ) → at < length bytes → drop at bytes ≡ text ++ rest
     → (s : Behind byte R text) → (get_or bytes at 0 ≡ byte) × (drop (at + 1) bytes ≡ s.rest ++ rest)
 behind_opened R byte bytes at text rest lt here s =
