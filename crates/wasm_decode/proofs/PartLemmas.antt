@@ -52,15 +52,6 @@ range_past bytes at start size p long text rest v here s =
 pub framed_none : {A : Type 0} (P : Rule A) (bytes : List ℕ) (at : ℕ) → NoneStands Sized bytes at → NoneStands (Within P) bytes at
 framed_none P bytes at none text rest v here s = none text rest s.inner here s.sized
 
-framed_stands : {A : Type 0} (P : Rule A) (bytes : List ℕ) (at end : ℕ) (part : List ℕ) (v : A) → Stands Sized bytes at end part → P part v
-    → Stands (Within P) bytes at end v
-framed_stands P bytes at end part v s p = record {
-  text = s.text;
-  spelled = record { inner = part; sized = s.spelled; spelled = p };
-  here = s.here;
-  within = s.within;
-}
-
 framed_bad : {A : Type 0} (P : Rule A) (bytes : List ℕ) (at end : ℕ) (part : List ℕ) → Stands Sized bytes at end part → ((v : A) → P part v → ⊥)
     → NoneStands (Within P) bytes at
 framed_bad {A} P bytes at end part s bad text rest v here t =
