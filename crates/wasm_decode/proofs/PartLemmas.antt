@@ -52,15 +52,6 @@ range_past bytes at start size p long text rest v here s =
 pub framed_none : {A : Type 0} (P : Rule A) (bytes : List ℕ) (at : ℕ) → NoneStands Sized bytes at → NoneStands (Within P) bytes at
 framed_none P bytes at none text rest v here s = none text rest s.inner here s.sized
 
-framed_stands : {A : Type 0} (P : Rule A) (bytes : List ℕ) (at end : ℕ) (part : List ℕ) (v : A) → Stands Sized bytes at end part → P part v
-    → Stands (Within P) bytes at end v
-framed_stands P bytes at end part v s p = record {
-  text = s.text;
-  spelled = record { inner = part; sized = s.spelled; spelled = p };
-  here = s.here;
-  within = s.within;
-}
-
 framed_bad : {A : Type 0} (P : Rule A) (bytes : List ℕ) (at end : ℕ) (part : List ℕ) → Stands Sized bytes at end part → ((v : A) → P part v → ⊥)
     → NoneStands (Within P) bytes at
 framed_bad {A} P bytes at end part s bad text rest v here t =
@@ -113,6 +104,12 @@ behind_stands P Q byte bytes at end v w lt is whole_text s = record {
   here = next bytes at lt ∙ ap (λ (b : ℕ). b ∷ drop (at + 1) bytes) is ∙ ap (λ (t : List ℕ). byte ∷ t) s.here;
   within = s.within;
 }
+
+pub behind_both : {A B C : Type 0} (P : Rule A) (Q : Rule B) (R : Rule C) (byte : ℕ) (bytes : List ℕ) (at mid end : ℕ) (v : A) (w : B) (u : C) → at < length bytes
+    → get_or bytes at 0 ≡ byte → ((text : List ℕ) → Behind byte (λ rest. Both P Q rest (v, w)) text → R text u)
+    → Stands P bytes (at + 1) mid v → Stands Q bytes mid end w → Stands R bytes at end u
+behind_both P Q R byte bytes at mid end v w u lt is whole_text s t =
+    behind_stands (Both P Q) R byte bytes at end (v, w) u lt is whole_text (both_stands P Q bytes (at + 1) mid end v w s t)
 
 pub behind_opened : (R : List ℕ → Type 0) (byte : ℕ) (bytes : List ℕ) (at : ℕ) (text rest : List ℕ) → at < length bytes → drop at bytes ≡ text ++ rest
     → (s : Behind byte R text) → (get_or bytes at 0 ≡ byte) × (drop (at + 1) bytes ≡ s.rest ++ rest)

@@ -25,6 +25,7 @@ fn may_follow(last: u8, id: u8) -> bool
 }
 
 /// The section at `at`, where the greatest id before it is `last`.
+#[tactic(auto, using(crate::proofs::FrameLemmas::frame_stands, crate::proofs::FrameLemmas::no_id))]
 fn read_frame(bytes: &[u8], at: usize, last: u8) -> Option<Frame>
     requires { at < length bytes.now }
     ensures { ReadsFrame bytes.now at last result }

@@ -87,6 +87,7 @@ impl<E: Production> Production for Vector<E> {
 }
 
 /// Where the bytes of a text of a stated size stand: their start, and their end, which is the text's end.
+#[tactic(auto, using(crate::proofs::PartLemmas::range_stands))]
 pub(crate) fn read_range(bytes: &[u8], at: usize) -> Option<(usize, usize)>
     ensures { ReadsRange bytes.now at result }
 {

@@ -60,6 +60,7 @@ impl Plain for ImportKind {
 
     ghost once = { once_import_kind };
 
+    #[tactic(auto, using(crate::proofs::PartLemmas::behind_stands, crate::proofs::PartLemmas::import_table_none, crate::proofs::PartLemmas::import_global_none))]
     fn find(bytes: &[u8], at: usize) -> Option<(ImportKind, usize)> {
         if at >= bytes.len() {
             return None;

@@ -42,6 +42,7 @@ impl Plain for Limits {
 
     ghost once = { once_limits };
 
+    #[tactic(auto, using(crate::proofs::PartLemmas::behind_stands, crate::proofs::PartLemmas::limits_none, crate::proofs::PartLemmas::behind_both))]
     fn find(bytes: &[u8], at: usize) -> Option<(Limits, usize)> {
         if at >= bytes.len() {
             return None;
@@ -99,6 +100,7 @@ impl Plain for GlobalType {
 
     ghost once = { once_global_type };
 
+    #[tactic(auto, using(wasm_types::proofs::StandingLemmas::then_stands))]
     fn find(bytes: &[u8], at: usize) -> Option<(GlobalType, usize)> {
         let (kind, middle) = ValType::find(bytes, at)?;
         let (mutable, end) = find_mutable(bytes, middle)?;

@@ -1,15 +1,9 @@
 use Rattle.wasm_types.specs.Types.{SpellsValType, SpellsMutable}
 use Rattle.wasm_types.proofs.SectionLemmas.{once_type}
-use Rattle.wasm_types.proofs.StandingLemmas.{both_stands, none_both_second}
+use Rattle.wasm_types.proofs.StandingLemmas.{none_both_second}
 use Rattle.wasm_decode.proofs.types.GlobalTypePlain.find.Goals as goal
 
 pub returns-in_err-mutable : goal.returns-in_err-mutable
 returns-in_err-mutable c = rw c.from_residual-in_err-mutable.ensures (λ text rest g here s.
     none_both_second SpellsValType SpellsMutable c.args.bytes.now c.args.at c.in_ok-kind.middle c.in_ok-kind.kind once_type c.in_ok-kind.ensures
     c.in_err-mutable.ensures text rest (g.kind, g.mutable) here s)
-
-pub returns : goal.returns
-returns c =
-    let s = both_stands SpellsValType SpellsMutable c.args.bytes.now c.args.at c.in_ok-kind.middle c.in_ok-mutable.end c.in_ok-kind.kind
-    c.in_ok-mutable.mutable c.in_ok-kind.ensures c.in_ok-mutable.ensures in
-    record { text = s.text; spelled = s.spelled; here = s.here; within = s.within }
