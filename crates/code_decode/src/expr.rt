@@ -9,7 +9,7 @@ use crate::scan::expr_end;
 use sqlite_items::Items;
 use std::alloc::Global;
 use thiserror::Error;
-use wasm_types::Instr;
+use wasm_types::{Instr, MOST_NESTING};
 
 /// Why no expression was read.
 #[derive(Clone, Copy, Debug, PartialEq, Eq, Error)]
@@ -36,7 +36,7 @@ pub fn read_expr(
     requires { at ≤ length bytes.now }
     ensures { ReadsExpr bytes.now at result }
 {
-    match read_code(alloc, bytes, at, 1024) {
+    match read_code(alloc, bytes, at, MOST_NESTING) {
         Ok((code, end)) => {
             if bytes[end] == 0x0B {
                 Ok((code, end + 1))

@@ -228,7 +228,7 @@ module _ (Z : Fixed) (W : Cover) (G : Calls → Type 0) (w : Mode) (S : Sites) (
         (λ d i. off-or-on (K d) (λ on. not_both (K (At p)) (fa.shadows p d (arms kind s is hd (subst (λ z. Inside S (p + 1) z d) (sym ee) i)) on) off));
     join = λ on_w off. off-or-on (K (Join p)) (λ on. not_both (K (At p)) (fa.shadows p (Join p) (if_join kind s is hd) on) off);
     enters = λ x nd. fa.before (At p) f x (from_at s is (into 0 ins)) (writes_only (bounds Z.m W) S x p s is (quiet x)) nd;
-    leaves_it = λ x nd. fa.before (Join p) s.next x (from_join s is) no_join nd;
+    leaves_it = λ x nd. fa.before (Join p) s.next x (from_join s is tt) no_join nd;
   }
 
   block_ok : (m : Bool) (r p e : ℕ) (s : Site) (f : Node) → IsSite S p s → m ≡ false → r ≤ 1 → slice_get s.inside 0 ≡ Some f
@@ -240,7 +240,7 @@ module _ (Z : Fixed) (W : Cover) (G : Calls → Type 0) (w : Mode) (S : Sites) (
     dark = λ on_w off i le lt. absurd (true≢false (sym on_w ∙ fa.no_cut));
     join = λ on_w off. absurd (true≢false (sym on_w ∙ fa.no_cut));
     enters = λ x nd. fa.before (At p) f x (from_at s is (into 0 ins)) (writes_only (bounds Z.m W) S x p s is (quiet x)) nd;
-    leaves_it = λ x nd. fa.before (Join p) s.next x (from_join s is) no_join nd;
+    leaves_it = λ x nd. fa.before (Join p) s.next x (from_join s is tt) no_join nd;
   }
 
   -- what is not kept where a branch is not kept

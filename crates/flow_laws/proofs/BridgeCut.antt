@@ -97,7 +97,7 @@ module _ (Z : Fixed) (W : Cover) (G : Calls → Type 0) (S : Sites) (ends : List
         (λ d i. off-or-on (K d) (λ on. not_both (K (At p)) (fa.shadows p d (arms kind s is hd (subst (λ z. Inside S (p + 1) z d) (sym ee) i)) on) off));
     join = λ on_w off. off-or-on (K (Join p)) (λ on. not_both (K (At p)) (fa.shadows p (Join p) (if_join kind s is hd) on) off);
     enters = λ x nd. fa.before (At p) f x (from_at s is (into 0 ins)) (writes_only (bounds Z.m W) S x p s is (quiet x)) nd;
-    leaves_it = λ x nd. fa.before (Join p) s.next x (from_join s is) no_join nd;
+    leaves_it = λ x nd. fa.before (Join p) s.next x (from_join s is tt) no_join nd;
   }
 
   block_ok : (m : Bool) (r p e : ℕ) (s : Site) (f : Node) → IsSite S p s → s.mark ≡ m → s.stop ≡ e → r ≤ 1 → slice_get s.inside 0 ≡ Some f
@@ -110,7 +110,7 @@ module _ (Z : Fixed) (W : Cover) (G : Calls → Type 0) (S : Sites) (ends : List
         (off-or-on (K (At i)) (λ on. not_both (K (At p)) (fa.around_at p i s is le' lt' on) off), off-or-on (K (Join i)) (λ on. not_both (K (At p)) (fa.around_join p i s is le' lt' on) off)));
     join = λ on_w off. off-or-on (K (Join p)) (λ on. not_both (K (At p)) (fa.own_join p on) off);
     enters = λ x nd. fa.before (At p) f x (from_at s is (into 0 ins)) (writes_only (bounds Z.m W) S x p s is (quiet x)) nd;
-    leaves_it = λ x nd. fa.before (Join p) s.next x (from_join s is) no_join nd;
+    leaves_it = λ x nd. fa.before (Join p) s.next x (from_join s is tt) no_join nd;
   }
 
   -- what is not kept where a branch is not kept

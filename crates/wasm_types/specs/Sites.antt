@@ -179,4 +179,4 @@ pub data Goes (s : Site) : Node → Type 0 where
 
 pub data Leads (S : Sites) : Node → Node → Type 0 where
   from_at : {p : ℕ} {n : Node} → (s : Site) → IsSite S p s → Goes s n → Leads S (At p) n
-  from_join : {p : ℕ} → (s : Site) → IsSite S p s → Leads S (Join p) s.next
+  from_join : {p : ℕ} → (s : Site) → IsSite S p s → HasJoin s.head → Leads S (Join p) s.next

@@ -1,5 +1,5 @@
 -- Which modules are analysed: those with no float type or float instruction, within the limits, that nest no deeper than the greatest nesting.
-use Rattle.std.specs.Prelude.{◌≡◌, ℕ, ◌-◌, ◌≤◌, length, Option, Some, None, All, IfSome, slice_get}
+use Rattle.std.specs.Prelude.{◌≡◌, ℕ, ◌+◌, ◌-◌, ◌*◌, ◌≤◌, length, Option, Some, None, All, IfSome, slice_get}
 use Rattle.wasm_types.specs.declared.module.ValType.{ValType}
 use Rattle.wasm_types.specs.declared.module.ValType.TheVariants.{I32, I64, F32, F64}
 use Rattle.wasm_types.specs.declared.module.FuncType.{FuncType}
@@ -15,6 +15,7 @@ use Rattle.wasm_types.specs.declared.module.DataSegment.{DataSegment}
 use Rattle.wasm_types.specs.declared.module.Module.{Module}
 use Rattle.wasm_types.specs.declared.place.Part.{Part}
 use Rattle.wasm_types.specs.declared.place.Part.TheVariants as part
+use Rattle.wasm_types.specs.declared.limits.TheConstants.{MOST_FUNCTIONS, MOST_PARAMS, MOST_GLOBALS, MOST_ENTRIES, MOST_LOCALS, MOST_POSITIONS, MOST_NESTING}
 use Rattle.wasm_types.specs.declared.place.LimitKind.{LimitKind}
 use Rattle.wasm_types.specs.declared.place.LimitKind.TheVariants as limit
 use Rattle.wasm_types.specs.declared.instr.Instr.{Instr, Float}
@@ -93,17 +94,17 @@ Counts m limit.Positions k n = (b : Body) × HasBody m k b × (n ≡ positions b
 
 -- the greatest numbers of a module that is read
 abbrev pub most_read : LimitKind → ℕ
-most_read limit.Functions = 10000
-most_read limit.Params = 64
-most_read limit.Globals = 128
-most_read limit.TableSize = 1000000
-most_read limit.Locals = 8192
-most_read limit.Positions = 100000
+most_read limit.Functions = MOST_FUNCTIONS
+most_read limit.Params = MOST_PARAMS
+most_read limit.Globals = MOST_GLOBALS
+most_read limit.TableSize = MOST_ENTRIES
+most_read limit.Locals = MOST_LOCALS
+most_read limit.Positions = MOST_POSITIONS
 
 -- those of a module that is answered, which may have one function more, of twice the positions
 abbrev pub most_answered : LimitKind → ℕ
-most_answered limit.Functions = 10001
-most_answered limit.Positions = 200000
+most_answered limit.Functions = MOST_FUNCTIONS + 1
+most_answered limit.Positions = 2 * MOST_POSITIONS
 most_answered which = most_read which
 
 abbrev pub WithinLimits : (LimitKind → ℕ) → Module → Type 0
@@ -120,7 +121,7 @@ pub record NestsAtMost (most : ℕ) (m : Module) : Type 0 where
 
 -- the greatest nesting
 abbrev pub most_nesting : ℕ
-most_nesting = 1024
+most_nesting = MOST_NESTING
 
 -- a module of the subset
 pub record InSubset (m : Module) : Type 0 where

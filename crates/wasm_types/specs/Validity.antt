@@ -16,6 +16,7 @@ use Rattle.wasm_types.specs.declared.module.Elem.{Elem}
 use Rattle.wasm_types.specs.declared.module.DataSegment.{DataSegment}
 use Rattle.wasm_types.specs.declared.module.Body.{Body}
 use Rattle.wasm_types.specs.declared.module.Module.{Module}
+use Rattle.wasm_types.specs.declared.limits.TheConstants.{MOST_PAGES}
 use Rattle.wasm_types.specs.declared.place.Part.{Part}
 use Rattle.wasm_types.specs.declared.place.Part.TheVariants as part
 use Rattle.wasm_types.specs.declared.instr.Instr.{Instr, Unreachable, Return, Br, BrIf, BrTable, GlobalGet, I32Const, I64Const}
@@ -65,7 +66,7 @@ LimitsHold l = IfSome l.max (λ max. l.min ≤ max)
 
 -- the greatest number of pages
 abbrev pub most_pages : ℕ
-most_pages = 65536
+most_pages = MOST_PAGES
 
 abbrev pub ImportHolds : Module → ImportKind → Type 0
 ImportHolds m (import.Func type) = type < length m.types

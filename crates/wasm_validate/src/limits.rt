@@ -11,20 +11,10 @@ ghost use Rattle.wasm_validate.specs.Limits.{FindsKind, FindsOver, initial_size}
 
 use crate::imports::first_own_func;
 use body_check::Spaces;
-use wasm_types::{LimitKind, Limits, LocalRun, Module};
-
-/// The most functions, imported and own.
-const MOST_FUNCTIONS: usize = 10_000;
-/// The most parameters of a type.
-const MOST_PARAMS: usize = 64;
-/// The most globals, imported and own.
-const MOST_GLOBALS: usize = 128;
-/// The most entries that a table begins with.
-const MOST_ENTRIES: u32 = 1_000_000;
-/// The most locals that a body declares.
-const MOST_LOCALS: u32 = 8_192;
-/// The most positions of a body.
-const MOST_POSITIONS: u32 = 100_000;
+use wasm_types::{
+    LimitKind, Limits, LocalRun, MOST_ENTRIES, MOST_FUNCTIONS, MOST_GLOBALS, MOST_LOCALS, MOST_PARAMS,
+    MOST_POSITIONS, Module,
+};
 
 /// A number over its limit: what it counts, the number of the type or of the function (0 where the limit is on neither), and the number itself.
 #[derive(Clone, Copy)]

@@ -6,10 +6,7 @@ ghost use Rattle.wasm_types.specs.Validity.{Holds, LimitsHold, LimitsWithin, mos
 ghost use Rattle.body_check.specs.Numbered.{Describes};
 
 use body_check::Spaces;
-use wasm_types::{Limits, Module};
-
-/// The most pages of a memory.
-const MOST_PAGES: u32 = 65_536;
+use wasm_types::{Limits, MOST_PAGES, Module};
 
 /// Whether the minimum is at most the maximum.
 pub(crate) fn limits_hold(limits: Limits) -> bool
