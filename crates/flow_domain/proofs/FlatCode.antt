@@ -72,7 +72,8 @@ small_drop [] (suc p) small = small
 small_drop (x ∷ xs) zero small = small
 small_drop (x ∷ xs) (suc p) small = small_drop xs p (small_first x xs small).1
 
-pub flat_next : (xs : List Instr) (p : ℕ) (x : Instr) → p < length xs → x ≡ get_or xs p x → IsSmallCode (code_of xs) → code_of (drop p xs) ≡ one x (code_of (drop (p + 1) xs))
+pub flat_next : (xs : List Instr) (p : ℕ) (x : Instr) → p < length xs → x ≡ get_or xs p x → IsSmallCode (code_of xs)
+    → code_of (drop p xs) ≡ one x (code_of (drop (p + 1) xs))
 flat_next xs p x lt is small = let e = code-next xs p x lt is in e ∙ small_onto x _ (subst IsSmallCode e (small_drop xs p small))
 
 -- the instruction at a position is one of the four

@@ -7,7 +7,8 @@ use Rattle.wasm_types.specs.Sites.{Sites, EndAt}
 use Rattle.wasm_types.specs.Nodes.{At, Join}
 use Rattle.flow_domain.specs.Kept.{Kept, IsClosed, Tells, criterion, criterion_operand, operand, reaching, deciding, carrying, ending, holding_at, holding_join, own_join}
 
-pub least : (cs : Callees) (W U : Table) (S : Sites) (ends : List EndAt) (K : Node → Bool) → IsClosed cs W U S ends K → (n : Node) → Kept cs W U S ends n → K n ≡ true
+pub least : (cs : Callees) (W U : Table) (S : Sites) (ends : List EndAt) (K : Node → Bool) → IsClosed cs W U S ends K → (n : Node) → Kept cs W U S ends n
+    → K n ≡ true
 least cs W U S ends K c n (criterion {p = p} s is m) = (c.watched p s is m).0
 least cs W U S ends K c n (criterion_operand p k s is m lt e) = (c.watched p s is m).1 k n lt e
 least cs W U S ends K c n (operand p k s h is lt e) = c.operands p s is (least cs W U S ends K c (At p) h) k n lt e

@@ -90,7 +90,8 @@ forward : (P : Node → Type 0) (t l : ℕ) (b : Bool) (d : List Bool) (names : 
 unfolding top
 forward P t zero b d names n le h s k m on is = s (t + k) m (past t b d k (t + k) refl ∙ on) (name_past t names k (t + k) refl ∙ is)
 forward P t (suc zero) b d names n le h s zero m on is = subst P (same is) (h on)
-forward P t (suc zero) b d names n le h s (suc k) m on is = s (t + k) m (past t b (drop 1 d) k (t + k) refl ∙ behind d k ∙ on) (name_past t names k (t + k) refl ∙ is)
+forward P t (suc zero) b d names n le h s (suc k) m on is =
+    s (t + k) m (past t b (drop 1 d) k (t + k) refl ∙ behind d k ∙ on) (name_past t names k (t + k) refl ∙ is)
 forward P t (suc (suc l)) b d names n le h s k m on is = absurd (omega arith)
 
 back_past : (P : Node → Type 0) (l : ℕ) (d : List Bool) (names : List Node) (n m : Node) (k : ℕ) → l ≤ 1 → Serves P d (named l n names)
@@ -104,7 +105,8 @@ backward : (P : Node → Type 0) (t l : ℕ) (b : Bool) (d : List Bool) (names :
     → Serves P d (named l n (drop t names)) → Serves P (replicate t b ++ drop l d) names
 backward P t l b d names n le h s k m on is = elim (cases_lt k t) [
   | inl lt ↦ h (sym (within t b (drop l d) k lt) ∙ on) k m lt is
-  | inr ge ↦ back_past P l d (drop t names) n m (k - t) le s (sym (past t b (drop l d) (k - t) k (omega arith)) ∙ on) (sym (name_past t names (k - t) k (omega arith)) ∙ is)
+  | inr ge ↦ back_past P l d (drop t names) n m (k - t) le s (sym (past t b (drop l d) (k - t) k (omega arith)) ∙ on)
+      (sym (name_past t names (k - t) k (omega arith)) ∙ is)
 ]
 
 head_served : (P : Node → Type 0) (l : ℕ) (d : List Bool) (names : List Node) (n : Node) → Serves P d (named l n names) → top l d ≡ true → P n
@@ -149,7 +151,8 @@ told : (cs : Callees) (W U : Table) (S : Sites) (ends : List EndAt) (a : ℕ) (b
 told cs W U S ends a b F here later zero j e on = subst (λ (i : ℕ). Kept cs W U S ends (At i)) (omega arith) (here on)
 told cs W U S ends a b F here later (suc q) j e on = later q j (omega arith) on
 
-sound : (cs : Callees) (W U : Table) (S : Sites) (ends : List EndAt) (w : ℕ → Bool) (ctx : List Label) (k : Node) (c : Code) (a : ℕ) (names : List Node) → IsSmallCode c
+sound : (cs : Callees) (W U : Table) (S : Sites) (ends : List EndAt) (w : ℕ → Bool) (ctx : List Label) (k : Node) (c : Code) (a : ℕ) (names : List Node)
+    → IsSmallCode c
     → StandAt S (sites cs ctx k (marked w a c) a names) a
     → ((q j : ℕ) → j ≡ a + q → get_or (flags cs w a c) q false ≡ true → Kept cs W U S ends (At j)) × Serves (Kept cs W U S ends) (needs cs w a c) names
 unfolding flags needs
@@ -160,7 +163,9 @@ sound cs W U S ends w ctx k (one op rest) a names small stand =
     let site : IsSite S a s = all 0 a s (omega arith) refl in
     let d = needs cs w (a + 1) rest in
     let later = sound cs W U S ends w ctx k rest (a + 1) (made cs a op names) small.1 (λ q j t e is. all (suc q) j t (omega arith) is) in
-    let here : keeps (w a) (leaves cs op) d ≡ true → Kept cs W U S ends (At a) = λ (on : keeps (w a) (leaves cs op) d ≡ true). here_kept cs W U S ends a (leaves cs op) d (drop (takes cs op) names) s site later.1 on in (
+    let here : keeps (w a) (leaves cs op) d ≡ true
+    → Kept cs W U S ends (At a) = λ (on : keeps (w a) (leaves cs op) d ≡ true). here_kept cs W U S ends a (leaves cs op) d
+    (drop (takes cs op) names) s site later.1 on in (
       told cs W U S ends a _ _ here later.0,
       backward (Kept cs W U S ends) (takes cs op) (leaves cs op) (keeps (w a) (leaves cs op) d) d names (At a) (few cs op small.0)
           (λ on i m lt is. operand a i s (here on) site lt is) later.1,
@@ -195,7 +200,8 @@ site_facts cs w K ctx k done a names small flagged serves q j s e is = absurd cc
 site_facts cs w K ctx k (one op rest) a names small flagged serves q j s e is =
     let d = needs cs w (a + 1) rest in
     let flag : K (At a) ≡ keeps (w a) (leaves cs op) d = flagged 0 a (omega arith) in
-    let next = forward (λ n. K n ≡ true) (takes cs op) (leaves cs op) (keeps (w a) (leaves cs op) d) d names (At a) (few cs op small.0) (λ up. flag ∙ kept_needed (w a) (leaves cs op) d up) serves in
+    let next = forward (λ n. K n ≡ true) (takes cs op) (leaves cs op) (keeps (w a) (leaves cs op) d) d names (At a) (few cs op small.0)
+    (λ up. flag ∙ kept_needed (w a) (leaves cs op) d up) serves in
     let here = subst (λ (M : Marked). slice_get (sites cs ctx k M a names) q ≡ Some (Some s)) (is_do (w a) op (marked w (a + 1) rest) small.0) is in
     one_site cs w K a q j (site_of ctx k (w a) op (marked w (a + 1) rest) a names) s (sites cs ctx k (marked w (a + 1) rest) (a + 1) (made cs a op names)) e
     (record {
@@ -216,7 +222,8 @@ site_facts cs w K ctx k (branch kind x y rest) a names small flagged serves q j 
 
 no_inner_ends : (cs : Callees) (w : ℕ → Bool) (c : Code) (p : ℕ) (names : List Node) → IsSmallCode c → inner_ends cs (marked w p c) p names ≡ []
 no_inner_ends cs w done p names small = refl
-no_inner_ends cs w (one op rest) p names small = rw (is_do (w p) op (marked w (p + 1) rest) small.0) (no_inner_ends cs w rest (p + 1) (made cs p op names) small.1)
+no_inner_ends cs w (one op rest) p names small =
+    rw (is_do (w p) op (marked w (p + 1) rest) small.0) (no_inner_ends cs w rest (p + 1) (made cs p op names) small.1)
 no_inner_ends cs w (block kind body rest) p names small = absurd small
 no_inner_ends cs w (repeat kind body rest) p names small = absurd small
 no_inner_ends cs w (branch kind x y rest) p names small = absurd small
@@ -240,10 +247,12 @@ no_shadow S p n flat (shadow.later l s is b inside) = let f = flat p s is in no_
 no_shadow S p n flat (shadow.around l j s is b le) = let f = flat p s is in no_branch s.head f.0 l f.1 b
 no_shadow S p n flat (shadow.looping l j s is b le t inside) = let f = flat p s is in no_branch s.head f.0 l f.1 b
 
-all_names : (cs : Callees) (K : Node → Bool) (s : Site) (op : Instr) → s.head ≡ DoHead op → NamesIn K (takes cs op) s.names → NamesIn K (all_operands cs s.around s.head) s.names
+all_names : (cs : Callees) (K : Node → Bool) (s : Site) (op : Instr) → s.head ≡ DoHead op → NamesIn K (takes cs op) s.names
+    → NamesIn K (all_operands cs s.around s.head) s.names
 all_names cs K s op e h = rw e h
 
-its_names : (cs : Callees) (K : Node → Bool) (s : Site) (op : Instr) → s.head ≡ DoHead op → NamesIn K (takes cs op) s.names → NamesIn K (operand_count cs s.head) s.names
+its_names : (cs : Callees) (K : Node → Bool) (s : Site) (op : Instr) → s.head ≡ DoHead op → NamesIn K (takes cs op) s.names
+    → NamesIn K (operand_count cs s.head) s.names
 its_names cs K s op e h = rw e h
 
 no_exit : {A : Type 0} (F : List Bool) → told_by F Exit ≡ true → A
@@ -254,13 +263,16 @@ no_reach : (cs : Callees) (S : Sites) (x : Loc) (n : Node) → ((p : ℕ) (s : S
 no_reach cs S x n flat (writes_it {p = p} w) = let f = flat p w.site w.is in do_writes_none cs w.site.head f.0 x f.1 f.2 w.writes
 
 kept_flags_closed : (cs : Callees) (t : ℕ) (w : ℕ → Bool) (c : Code) (U : Table) → IsSmallCode c
-    → IsClosed cs (WritesAt cs no_calls (body_sites cs t (marked w 0 c))) U (body_sites cs t (marked w 0 c)) (body_ends cs t (marked w 0 c)) (told_by (flags cs w 0 c))
+    → IsClosed cs (WritesAt cs no_calls (body_sites cs t (marked w 0 c))) U (body_sites cs t (marked w 0 c)) (body_ends cs t (marked w 0 c))
+    (told_by (flags cs w 0 c))
 kept_flags_closed cs t w c U small =
     let K = told_by (flags cs w 0 c) in
     let S = body_sites cs t (marked w 0 c) in
     let fact : (p : ℕ) (s : Site) → IsSite S p s → FlatSite cs w K p s = λ (p : ℕ) (s : Site) (is : IsSite S p s).
-    site_facts cs w K _ Exit c 0 [] small (λ q j e. ap (λ (i : ℕ). get_or (flags cs w 0 c) i false) (omega arith)) (λ k n on at. absurd cc) p p s (omega arith) is in
-    let plain : (p : ℕ) (s : Site) → IsSite S p s → (op : Instr) × (s.head ≡ DoHead op) = λ (p : ℕ) (s : Site) (is : IsSite S p s). ((fact p s is).op, (fact p s is).head) in
+    site_facts cs w K _ Exit c 0 [] small (λ q j e. ap (λ (i : ℕ). get_or (flags cs w 0 c) i false) (omega arith)) (λ k n on at. absurd cc) p p s
+    (omega arith) is in
+    let plain : (p : ℕ) (s : Site) → IsSite S p s
+    → (op : Instr) × (s.head ≡ DoHead op) = λ (p : ℕ) (s : Site) (is : IsSite S p s). ((fact p s is).op, (fact p s is).head) in
     record {
       watched = λ p s is m. let f = fact p s is in ((f.marks m), all_names cs K s f.op f.head (f.operands (f.marks m)));
       operands = λ p s is on. let f = fact p s is in its_names cs K s f.op f.head (f.operands on);
@@ -293,12 +305,14 @@ flags_tell cs t w c small n = (told_is_kept cs t w c _ _ small n, least cs _ _ _
 -- ---- one position more, from the end on backwards
 
 pub flags_next : (cs : Callees) (w : ℕ → Bool) (xs : List Instr) (p : ℕ) (x : Instr) → p < length xs → x ≡ get_or xs p x → IsSmallCode (code_of xs)
-    → flags cs w p (code_of (drop p xs)) ≡ keeps (w p) (leaves cs x) (needs cs w (p + 1) (code_of (drop (p + 1) xs))) ∷ flags cs w (p + 1) (code_of (drop (p + 1) xs))
+    → flags cs w p (code_of (drop p xs)) ≡ keeps (w p) (leaves cs x) (needs cs w (p + 1) (code_of (drop (p + 1) xs))) ∷ flags cs w (p + 1)
+    (code_of (drop (p + 1) xs))
 unfolding flags
 flags_next cs w xs p x lt is small = ap (flags cs w p) (flat_next xs p x lt is small)
 
 pub needs_next : (cs : Callees) (w : ℕ → Bool) (xs : List Instr) (p : ℕ) (x : Instr) → p < length xs → x ≡ get_or xs p x → IsSmallCode (code_of xs)
-    → needs cs w p (code_of (drop p xs)) ≡ replicate (takes cs x) (keeps (w p) (leaves cs x) (needs cs w (p + 1) (code_of (drop (p + 1) xs)))) ++ drop (leaves cs x) (needs cs w (p + 1) (code_of (drop (p + 1) xs)))
+    → needs cs w p (code_of (drop p xs)) ≡ replicate (takes cs x) (keeps (w p) (leaves cs x) (needs cs w (p + 1) (code_of (drop (p + 1) xs)))) ++ drop
+    (leaves cs x) (needs cs w (p + 1) (code_of (drop (p + 1) xs)))
 unfolding needs
 needs_next cs w xs p x lt is small = ap (needs cs w p) (flat_next xs p x lt is small)
 
@@ -351,14 +365,20 @@ told_next code at p left kept stack stack' x lv keep count e is small lvs cnt k 
     let lt : p < length code = omega arith in
     let lt' : p < length kept = omega arith in
     let w = nat_eq at in
-    let stack_is : (cs : Callees) → reverse stack ≡ needs cs w (p + 1) (code_of (drop (p + 1) code)) = λ (cs : Callees). subst (λ (n : ℕ). reverse stack ≡ needs cs w n (code_of (drop n code))) e (told.needed cs) in
-    let kept_is_on : (cs : Callees) → drop (p + 1) kept ≡ flags cs w (p + 1) (code_of (drop (p + 1) code)) = λ (cs : Callees). subst (λ (n : ℕ). drop n kept ≡ flags cs w n (code_of (drop n code))) e (told.kept_on cs) in
-    let keep_is : (cs : Callees) → keep ≡ keeps (w p) (leaves cs x) (needs cs w (p + 1) (code_of (drop (p + 1) code))) = λ (cs : Callees). k ∙ kept_is (w p) lv (leaves cs x) (reverse stack) (lvs cs) ∙ ap (keeps (w p) (leaves cs x)) (stack_is cs) in
+    let stack_is : (cs : Callees)
+    → reverse stack ≡ needs cs w (p + 1) (code_of (drop (p + 1) code)) = λ (cs : Callees). subst
+    (λ (n : ℕ). reverse stack ≡ needs cs w n (code_of (drop n code))) e (told.needed cs) in
+    let kept_is_on : (cs : Callees)
+    → drop (p + 1) kept ≡ flags cs w (p + 1) (code_of (drop (p + 1) code)) = λ (cs : Callees). subst
+    (λ (n : ℕ). drop n kept ≡ flags cs w n (code_of (drop n code))) e (told.kept_on cs) in
+    let keep_is : (cs : Callees) → keep ≡ keeps (w p) (leaves cs x) (needs cs w (p + 1) (code_of (drop (p + 1) code))) = λ (cs : Callees). k
+    ∙ kept_is (w p) lv (leaves cs x) (reverse stack) (lvs cs) ∙ ap (keeps (w p) (leaves cs x)) (stack_is cs) in
     record {
       within = omega arith;
       long = simp length-set (told.long);
       kept_on = λ cs. drop-set kept p keep lt' ∙ cons_is (keep_is cs) (kept_is_on cs) ∙ sym (flags_next cs w code p x lt is small);
-      needed = λ cs. r ∙ append_is (count_is (cnt cs) (keep_is cs)) (rest_is lv (leaves cs x) (reverse stack) (lvs cs) ∙ ap (drop (leaves cs x)) (stack_is cs)) ∙ sym (needs_next cs w code p x lt is small);
+      needed = λ cs. r ∙ append_is (count_is (cnt cs) (keep_is cs))
+          (rest_is lv (leaves cs x) (reverse stack) (lvs cs) ∙ ap (drop (leaves cs x)) (stack_is cs)) ∙ sym (needs_next cs w code p x lt is small);
     }
 
 pub told_end : (code : List Instr) (at : ℕ) (kept stack : List Bool) → length kept ≡ length code → stack ≡ [] → Told code at (length code) kept stack
@@ -383,22 +403,26 @@ pub told_all : (code : List Instr) (at left : ℕ) (kept stack : List Bool) → 
     → (cs : Callees) (t : FuncType) (b : Body) → b.code ≡ code → Tells (told_by kept) (KeptAt cs t b at)
 told_all code at zero kept stack e small told cs t b is =
     subst (λ (xs : List Instr). TellKept cs (length t.results) (nat_eq at) (code_of xs) kept) (sym is)
-    (subst (λ (F : List Bool). TellKept cs (length t.results) (nat_eq at) (code_of code) F) (sym (told.kept_on cs)) (flags_tell cs (length t.results) (nat_eq at) (code_of code) small))
+    (subst (λ (F : List Bool). TellKept cs (length t.results) (nat_eq at) (code_of code) F) (sym (told.kept_on cs))
+    (flags_tell cs (length t.results) (nat_eq at) (code_of code) small))
 told_all code at (suc left) kept stack e small told cs t b is = absurd (omega arith)
 
-flag_on : (cs : Callees) (w : ℕ → Bool) (xs : List Instr) (p q j : ℕ) → IsSmallCode (code_of xs) → j ≡ p + q → w j ≡ true → q < length xs → get_or (flags cs w p (code_of xs)) q false ≡ true
+flag_on : (cs : Callees) (w : ℕ → Bool) (xs : List Instr) (p q j : ℕ) → IsSmallCode (code_of xs) → j ≡ p + q → w j ≡ true → q < length xs
+    → get_or (flags cs w p (code_of xs)) q false ≡ true
 unfolding flags
 flag_on cs w [] p q j small e on lt = absurd (omega arith)
 flag_on cs w (x ∷ xs) p zero j small e on lt =
     rw (small_onto x (code_of xs) small) (kept_watched (w p) (leaves cs x) _ (subst (λ (n : ℕ). w n ≡ true) (omega arith) on))
 flag_on cs w (x ∷ xs) p (suc q) j small e on lt =
-    rw (small_onto x (code_of xs) small) (flag_on cs w xs (p + 1) q j (subst IsSmallCode (small_onto x (code_of xs) small) small).1 (omega arith) on (omega arith))
+    rw (small_onto x (code_of xs) small) (flag_on cs w xs (p + 1) q j (subst IsSmallCode (small_onto x (code_of xs) small) small).1 (omega arith) on
+    (omega arith))
 
 alone : Callees
 alone = record { type_of = λ f. None; type_at = λ t. None }
 
 -- and keeps the watched position
-pub told_watched : (code : List Instr) (at left : ℕ) (kept stack : List Bool) → left ≡ 0 → IsSmallCode (code_of code) → Told code at left kept stack → at < length code → told_by kept (At at) ≡ true
+pub told_watched : (code : List Instr) (at left : ℕ) (kept stack : List Bool) → left ≡ 0 → IsSmallCode (code_of code) → Told code at left kept stack
+    → at < length code → told_by kept (At at) ≡ true
 told_watched code at zero kept stack e small told lt =
     ap (λ (F : List Bool). get_or F at false) (told.kept_on alone) ∙ flag_on alone (nat_eq at) code 0 at at small (omega arith) (eq-eqb at at refl) lt
 told_watched code at (suc left) kept stack e small told lt = absurd (omega arith)

@@ -75,7 +75,8 @@ flat_site cs w ctx k (branch kind x y rest) a names i s small is = absurd small
 same_first : {x y : ValType} → x ∷ [] ≡ y ∷ [] → x ≡ y
 same_first e = cc
 
-left_i32 : (c : Context) (op : Instr) (t : List ValType) (k : ValType) → ((x : ℕ) (kind : ValType) → slice_get c.locals x ≡ Some kind → kind ≡ I32) → IsSmallInstr op → Types c op t (k ∷ []) → I32 ≡ k
+left_i32 : (c : Context) (op : Instr) (t : List ValType) (k : ValType) → ((x : ℕ) (kind : ValType) → slice_get c.locals x ≡ Some kind → kind ≡ I32)
+    → IsSmallInstr op → Types c op t (k ∷ []) → I32 ≡ k
 left_i32 c Drop t k locals small (kind, (a, b)) = absurd cc
 left_i32 c (LocalGet x) t k locals small (kind, at, (a, b)) = sym (same_first b ∙ locals x kind at)
 left_i32 c (I32Const n) t k locals small (a, b) = sym (same_first b)

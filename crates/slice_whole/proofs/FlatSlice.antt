@@ -50,14 +50,16 @@ same_found : {A : Type 0} {x y : A} {o : Option A} → o ≡ Some x → o ≡ So
 same_found e f = cc
 
 -- an export of the name was found
-pub export_found : (exports : List Export) (i : ℕ) (e : Export) (name part : List ℕ) (b : Bool) → i < length exports → e ≡ get_or exports i e → b ≡ true → b ≡ bytes_eq part name → part ≡ e.name.bytes → HasExport exports name
+pub export_found : (exports : List Export) (i : ℕ) (e : Export) (name part : List ℕ) (b : Bool) → i < length exports → e ≡ get_or exports i e → b ≡ true
+    → b ≡ bytes_eq part name → part ≡ e.name.bytes → HasExport exports name
 export_found exports i e name part b lt is on eq p = (i, e, slice_get_read exports (length exports) i e refl lt is, sym p ∙ same_bytes part name (sym eq ∙ on))
 
 -- none before i has the name
 abbrev pub NoneBefore : List Export → List ℕ → ℕ → Type 0
 NoneBefore exports name i = (k : ℕ) (e : Export) → k < i → slice_get exports k ≡ Some e → e.name.bytes ≡ name → ⊥
 
-pub none_next : (exports : List Export) (i : ℕ) (e : Export) (name part : List ℕ) (b : Bool) → i < length exports → e ≡ get_or exports i e → b ≡ false → b ≡ bytes_eq part name → part ≡ e.name.bytes
+pub none_next : (exports : List Export) (i : ℕ) (e : Export) (name part : List ℕ) (b : Bool) → i < length exports → e ≡ get_or exports i e → b ≡ false
+    → b ≡ bytes_eq part name → part ≡ e.name.bytes
     → NoneBefore exports name i → NoneBefore exports name (i + 1)
 none_next exports i e name part b lt is off eq p before k f lt' at same = elim (cases_lt k i) [
   | inl less ↦ before k f less at same
@@ -93,14 +95,17 @@ own_count m e = ap length (own_types m e)
 pub none_imported : (m : Module) → m.imports ≡ [] → import_count m ≡ 0
 none_imported m e = ap length (no_func_imports m e)
 
-pub type_at : (m : Module) (f type : ℕ) (t : FuncType) → m.imports ≡ [] → slice_get m.funcs f ≡ Some type → slice_get m.types type ≡ Some t → type_of_func m f ≡ Some t
+pub type_at : (m : Module) (f type : ℕ) (t : FuncType) → m.imports ≡ [] → slice_get m.funcs f ≡ Some type → slice_get m.types type ≡ Some t
+    → type_of_func m f ≡ Some t
 type_at m f type t e at is = ap (type_numbered m.types) (ap (λ (ns : List ℕ). slice_get ns f) (own_types m e) ∙ at) ∙ is
 
-pub at_own : {A : Type 0} (m : Module) (xs : List A) (f : ℕ) (x : A) → m.imports ≡ [] → slice_get xs f ≡ Some x → (import_count m ≤ f) × (slice_get xs (f - import_count m) ≡ Some x)
+pub at_own : {A : Type 0} (m : Module) (xs : List A) (f : ℕ) (x : A) → m.imports ≡ [] → slice_get xs f ≡ Some x
+    → (import_count m ≤ f) × (slice_get xs (f - import_count m) ≡ Some x)
 at_own m xs f x e at = let z = none_imported m e in
     (omega arith, (let n : f ≡ f - import_count m = omega arith in subst (λ (k : ℕ). slice_get xs k ≡ Some x) n at))
 
-pub of_own : {A : Type 0} (m : Module) (xs : List A) (f : ℕ) (x : A) → m.imports ≡ [] → (import_count m ≤ f) × (slice_get xs (f - import_count m) ≡ Some x) → slice_get xs f ≡ Some x
+pub of_own : {A : Type 0} (m : Module) (xs : List A) (f : ℕ) (x : A) → m.imports ≡ [] → (import_count m ≤ f) × (slice_get xs (f - import_count m) ≡ Some x)
+    → slice_get xs f ≡ Some x
 of_own m xs f x e own = let z = none_imported m e in let n : f - import_count m ≡ f = omega arith in subst (λ (k : ℕ). slice_get xs k ≡ Some x) n own.1
 
 -- what is known of own function f
@@ -111,7 +116,8 @@ pub record OwnFunc (m : Module) (f type : ℕ) (b : Body) : Type 0 where
   pub small : IsSmallBody b
   pub valid : IsValidBody m kind b
 
-pub own_func : (m : Module) (f type : ℕ) (b : Body) → m.imports ≡ [] → IsSmall m → IsValid m → slice_get m.funcs f ≡ Some type → slice_get m.bodies f ≡ Some b → OwnFunc m f type b
+pub own_func : (m : Module) (f type : ℕ) (b : Body) → m.imports ≡ [] → IsSmall m → IsValid m → slice_get m.funcs f ≡ Some type
+    → slice_get m.bodies f ≡ Some b → OwnFunc m f type b
 own_func m f type b none small valid at is =
     let known = within_get m.types type (valid.1 (part.FuncTypeAt f) type (at_own m m.funcs f type none at)) in
     record {
@@ -125,7 +131,8 @@ own_func m f type b none small valid at is =
 runs_i32 : (rs : List LocalRun) → All (λ (r : LocalRun). IsI32 r.kind) rs → All IsI32 (run_types rs)
 runs_i32 [] all = All-nil IsI32
 runs_i32 (r ∷ rs) all =
-    All-append IsI32 (replicate r.count r.kind) (run_types rs) (All-replicate IsI32 r.count r.kind (All-head (λ (x : LocalRun). IsI32 x.kind) r rs all)) (runs_i32 rs (All-tail (λ (x : LocalRun). IsI32 x.kind) r rs all))
+    All-append IsI32 (replicate r.count r.kind) (run_types rs) (All-replicate IsI32 r.count r.kind (All-head (λ (x : LocalRun). IsI32 x.kind) r rs all))
+    (runs_i32 rs (All-tail (λ (x : LocalRun). IsI32 x.kind) r rs all))
 
 pub locals_i32 : (t : FuncType) (b : Body) → IsSmallType t → IsSmallBody b → (x : ℕ) (k : ValType) → slice_get (local_types t b) x ≡ Some k → k ≡ I32
 locals_i32 t b small is x k at = all_at IsI32 (local_types t b) x k (All-append IsI32 t.params (run_types b.locals) small.0 (runs_i32 b.locals is.0)) at
@@ -135,13 +142,16 @@ typed_body m t b valid = (record { inside = m; locals = local_types t b; result 
 
 pub few_positions : (m : Module) (f : ℕ) (b : Body) → IsFlat m → slice_get m.bodies f ≡ Some b → count (code_of b.code) ≤ 100000
 few_positions m f b ok is =
-    let few = ok.limits limit.Positions f (positions b.code) (b, at_own m m.bodies f b ok.only.no_imports is, refl) in omega (arith, length-flatten (code_of b.code))
+    let few = ok.limits limit.Positions f (positions b.code) (b, at_own m m.bodies f b ok.only.no_imports is, refl) in omega
+    (arith, length-flatten (code_of b.code))
 
 pub few_functions : (m : Module) → IsFlat m → length m.funcs ≤ 10000
-few_functions m ok = let few = ok.limits limit.Functions 0 (length (func_types m)) (refl, refl) in let e = ap length (own_types m ok.only.no_imports) in omega arith
+few_functions m ok =
+    let few = ok.limits limit.Functions 0 (length (func_types m)) (refl, refl) in let e = ap length (own_types m ok.only.no_imports) in omega arith
 
 -- the new function gives the sliced module
-pub sliced_is : (m new : Module) (f i : ℕ) (name : Name) (new_func : NewFunc) (at : ℕ) → IsFlat m → IsNew m f i new_func → new ≡ appended m new_func.kind new_func.made.body name → at ≡ new_func.made.at
+pub sliced_is : (m new : Module) (f i : ℕ) (name : Name) (new_func : NewFunc) (at : ℕ) → IsFlat m → IsNew m f i new_func
+    → new ≡ appended m new_func.kind new_func.made.body name → at ≡ new_func.made.at
     → IsSliced m f i name new at
 sliced_is m new f i name new_func at ok found is at_is =
     let own = own_func m f new_func.kind found.body ok.only.no_imports ok.small ok.valid found.kind found.body_is in
@@ -159,7 +169,8 @@ sliced_is m new f i name new_func at ok found is at_is =
       kept = made.0;
       exact = made.1;
       types = all_i32;
-      typed = places_i32 (context_of m own.kind found.body) (nat_eq i) (length own.kind.results) (code_of found.body.code) own.small.1 (locals_i32 own.kind found.body own.kind_small own.small);
+      typed = places_i32 (context_of m own.kind found.body) (nat_eq i) (length own.kind.results) (code_of found.body.code) own.small.1
+          (locals_i32 own.kind found.body own.kind_small own.small);
       is = is ∙ ap (λ (b : Body). appended m new_func.kind b name) made.2;
       at_is = at_is ∙ made.3;
     }
@@ -168,22 +179,26 @@ pub not_found : {b : Bool} → IsTrue b → b ≡ false → ⊥
 not_found t f = cc
 
 -- a want of memory is told as such
-pub memory_found : (m : Module) (f i : ℕ) (name : List ℕ) (r : Result NewFunc SliceRefusal) → IsErrAnd r (λ e. e ≡ Memory) → HasInstruction m f i → (HasExport m.exports name → ⊥) → FindsNew m f i name r
+pub memory_found : (m : Module) (f i : ℕ) (name : List ℕ) (r : Result NewFunc SliceRefusal) → IsErrAnd r (λ e. e ≡ Memory) → HasInstruction m f i
+    → (HasExport m.exports name → ⊥) → FindsNew m f i name r
 memory_found m f i name (Ok x) err there free = absurd err
 memory_found m f i name (Err e) err there free = subst (λ (x : SliceRefusal). Refuses m f i name x) (sym err) (there, free)
 
-pub memory_sliced : (m : Module) (f i : ℕ) (name : Name) (r : Result Sliced SliceRefusal) → IsErrAnd r (λ e. e ≡ Memory) → HasInstruction m f i → (HasExport m.exports name.bytes → ⊥) → Slices m f i name r
+pub memory_sliced : (m : Module) (f i : ℕ) (name : Name) (r : Result Sliced SliceRefusal) → IsErrAnd r (λ e. e ≡ Memory) → HasInstruction m f i
+    → (HasExport m.exports name.bytes → ⊥) → Slices m f i name r
 memory_sliced m f i name (Ok x) err there free = absurd err
 memory_sliced m f i name (Err e) err there free = subst (λ (x : SliceRefusal). Refuses m f i name.bytes x) (sym err) (there, free)
 
-pub refusal_passed : (m : Module) (f i : ℕ) (name : Name) (r : Result Sliced SliceRefusal) (refusal : SliceRefusal) → IsErrAnd r (λ e. e ≡ refusal) → Refuses m f i name.bytes refusal → Slices m f i name r
+pub refusal_passed : (m : Module) (f i : ℕ) (name : Name) (r : Result Sliced SliceRefusal) (refusal : SliceRefusal) → IsErrAnd r (λ e. e ≡ refusal)
+    → Refuses m f i name.bytes refusal → Slices m f i name r
 refusal_passed m f i name (Ok x) refusal err h = absurd err
 refusal_passed m f i name (Err e) refusal err h = subst (λ (x : SliceRefusal). Refuses m f i name.bytes x) (sym err) h
 
 pub has_instruction : (m : Module) (f i : ℕ) (new : NewFunc) → IsNew m f i new → HasInstruction m f i
 has_instruction m f i new found = (count (code_of found.body.code), (found.body, found.body_is, refl), found.there)
 
-pub body_parts : (b : Body) (locals : List LocalRun) (code code' : List Instr) → locals ≡ b.locals → code ≡ code' → record { locals = locals; code = code } ≡ record b { code = code' }
+pub body_parts : (b : Body) (locals : List LocalRun) (code code' : List Instr) → locals ≡ b.locals → code ≡ code'
+    → record { locals = locals; code = code } ≡ record b { code = code' }
 body_parts b locals code code' e f = cc
 
 pub small_body : (m : Module) (f : ℕ) (b : Body) → IsSmall m → slice_get m.bodies f ≡ Some b → IsSmallBody b

@@ -44,5 +44,6 @@ heights m flat f t b is has =
 pub slice_follows : SliceFollows
 slice_follows m flat f i name new at sl =
     let small = (small_body m f sl.body flat.small (of_own m m.bodies f sl.body flat.only.no_imports sl.has_body)).1 in
-    sliced_returns m flat.valid (heights m flat) f i name new at sl (flat_calls_nothing (callees m) (length sl.kind.results) (nat_eq i) (code_of sl.body.code) small)
+    sliced_returns m flat.valid (heights m flat) f i name new at sl
+    (flat_calls_nothing (callees m) (length sl.kind.results) (nat_eq i) (code_of sl.body.code) small)
     (closed (callees m) _ _ _ _ sl.kept sl.exact)

@@ -6,3 +6,4 @@ pub mod Made
 pub mod OneSliced
 mod SliceExample
 pub mod Follows
+mod SliceSmall

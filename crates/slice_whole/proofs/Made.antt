@@ -57,7 +57,8 @@ pub record Made (m : Module) (f i : ℕ) (name : List ℕ) (new : Module) (at : 
   pub body : IsShortFor m f new
   pub length : length (canon new) ≤ 5 * length (canon m) + length name + 64
 
-short_for : (m : Module) (f i : ℕ) (name : Name) (new : Module) (at : ℕ) → IsFlat m → InSubset m → ProperName name → (HasExport m.exports name.bytes → ⊥) → IsSliced m f i name new at → IsShortFor m f new
+short_for : (m : Module) (f i : ℕ) (name : Name) (new : Module) (at : ℕ) → IsFlat m → InSubset m → ProperName name → (HasExport m.exports name.bytes → ⊥)
+    → IsSliced m f i name new at → IsShortFor m f new
 unfolding sliced_has_cut
 short_for m f i name new at flat sub proper free s old cut has has' =
     let h = sliced_has_cut m f i name new at proper free s in
@@ -67,7 +68,8 @@ short_for m f i name new at flat sub proper free s old cut has has' =
     let P : Body → Body → Type 0 = λ x y. (positions y.code ≤ 2 * positions x.code) × (nest (code_of y.code) ≤ nest (code_of x.code)) in
     subst (λ (x : Body). P x cut) (sym before) (subst (λ (y : Body). P s.body y) (sym after) short)
 
-made_of : (m new : Module) (f i : ℕ) (name : List ℕ) (new_func : NewFunc) → IsFlat m → IsSealed m → IsNew m f i new_func → new ≡ appended m new_func.kind new_func.made.body (name_of name)
+made_of : (m new : Module) (f i : ℕ) (name : List ℕ) (new_func : NewFunc) → IsFlat m → IsSealed m → IsNew m f i new_func
+    → new ≡ appended m new_func.kind new_func.made.body (name_of name)
     → ProperName (name_of name) → (HasExport m.exports name → ⊥) → length (canon m) < 2 ^ 28 → length name < 2 ^ 28 → Made m f i name new new_func.made.at
 made_of m new f i name new_func flat seal found is proper free short few =
     let sub : InSubset m = record { no_float = seal.no_float; limits = flat.limits; nesting = seal.nesting } in
@@ -83,17 +85,21 @@ made_of m new f i name new_func flat seal found is proper free short few =
 
 -- the same of the module that was given, which is this one
 pub made_is : (m given new : Module) (f i : ℕ) (name : List ℕ) (new_func : NewFunc) → m ≡ given → IsFlat given → IsSealed m → IsNew m f i new_func
-    → new ≡ appended m new_func.kind new_func.made.body (name_of name) → ProperName (name_of name) → (HasExport m.exports name → ⊥) → length (canon given) < 2 ^ 28 → length name < 2 ^ 28
+    → new ≡ appended m new_func.kind new_func.made.body (name_of name) → ProperName (name_of name) → (HasExport m.exports name → ⊥)
+    → length (canon given) < 2 ^ 28 → length name < 2 ^ 28
     → Made given f i name new new_func.made.at
 made_is m given new f i name new_func e flat seal found is proper free short few =
     made_of given new f i name new_func flat (subst IsSealed e seal) (subst (λ (x : Module). IsNew x f i new_func) e found)
-    (is ∙ ap (λ (x : Module). appended x new_func.kind new_func.made.body (name_of name)) e) proper (subst (λ (x : Module). HasExport x.exports name → ⊥) e free) short few
+    (is ∙ ap (λ (x : Module). appended x new_func.kind new_func.made.body (name_of name)) e) proper
+    (subst (λ (x : Module). HasExport x.exports name → ⊥) e free) short few
 
-pub refused_is : (m given : Module) (f i : ℕ) (name : List ℕ) (r : Result Sliced SliceRefusal) (refusal : SliceRefusal) → m ≡ given → IsErrAnd r (λ e. e ≡ refusal) → Refuses m f i name refusal
+pub refused_is : (m given : Module) (f i : ℕ) (name : List ℕ) (r : Result Sliced SliceRefusal) (refusal : SliceRefusal) → m ≡ given
+    → IsErrAnd r (λ e. e ≡ refusal) → Refuses m f i name refusal
     → Slices given f i (name_of name) r
 refused_is m given f i name r refusal e err h = subst (λ (x : Module). Slices x f i (name_of name) r) e (refusal_passed m f i (name_of name) r refusal err h)
 
-pub memory_is : (m given : Module) (f i : ℕ) (name : List ℕ) (r : Result Sliced SliceRefusal) (new_func : NewFunc) → m ≡ given → IsErrAnd r (λ e. e ≡ Memory) → IsNew m f i new_func
+pub memory_is : (m given : Module) (f i : ℕ) (name : List ℕ) (r : Result Sliced SliceRefusal) (new_func : NewFunc) → m ≡ given → IsErrAnd r (λ e. e ≡ Memory)
+    → IsNew m f i new_func
     → (HasExport m.exports name → ⊥) → Slices given f i (name_of name) r
 memory_is m given f i name r new_func e err found free =
     subst (λ (x : Module). Slices x f i (name_of name) r) e (memory_sliced m f i (name_of name) r err (has_instruction m f i new_func found) free)

@@ -28,10 +28,12 @@ use Rattle.slice_whole.proofs.FlatSlice.{OwnFunc, own_func, at_own, of_own, loca
 -- the position is one of the body's
 pub sliced_there : (m : Module) (f i : ℕ) (name : Name) (new : Module) (at : ℕ) → IsFlat m → (s : IsSliced m f i name new at) → i < count (code_of s.body.code)
 sliced_there m f i name new at flat s =
-    site_within (callees m) (nat_eq i) _ _ (code_of s.body.code) 0 [] i s.site (small_body m f s.body flat.small (of_own m m.bodies f s.body flat.only.no_imports s.has_body)).1 s.live
+    site_within (callees m) (nat_eq i) _ _ (code_of s.body.code) 0 [] i s.site
+    (small_body m f s.body flat.small (of_own m m.bodies f s.body flat.only.no_imports s.has_body)).1 s.live
 
 -- the sliced module of a function that is there
-pub the_slice : (m : Module) (f type i : ℕ) (name : Name) (b : Body) → IsFlat m → slice_get m.funcs f ≡ Some type → slice_get m.bodies f ≡ Some b → i < count (code_of b.code)
+pub the_slice : (m : Module) (f type i : ℕ) (name : Name) (b : Body) → IsFlat m → slice_get m.funcs f ≡ Some type → slice_get m.bodies f ≡ Some b
+    → i < count (code_of b.code)
     → (new : Module) × (at : ℕ) × IsSliced m f i name new at
 the_slice m f type i name b flat at is lt =
     let own : OwnFunc m f type b = own_func m f type b flat.only.no_imports flat.small flat.valid at is in
@@ -52,7 +54,8 @@ the_slice m f type i name b flat at is lt =
         kept = K;
         exact = flags_tell (callees m) (length own.kind.results) (nat_eq i) (code_of b.code) own.small.1;
         types = all_i32;
-        typed = places_i32 (context_of m own.kind b) (nat_eq i) (length own.kind.results) (code_of b.code) own.small.1 (locals_i32 own.kind b own.kind_small own.small);
+        typed = places_i32 (context_of m own.kind b) (nat_eq i) (length own.kind.results) (code_of b.code) own.small.1
+            (locals_i32 own.kind b own.kind_small own.small);
         is = refl;
         at_is = refl;
       },
@@ -76,7 +79,8 @@ abbrev Typed : Module → ℕ → (Node → ValType) → FuncType → Body → T
 Typed m i T t b = TypesPlaces (context_of m t b) (sites_at (callees m) t b i) T
 
 -- of a valid module without floats, whichever types the places are given
-pub one_sliced : (m : Module) (f i : ℕ) (name : Name) (new other : Module) (at to : ℕ) → IsValid m → HasNoFloat m → IsSliced m f i name new at → IsSliced m f i name other to
+pub one_sliced : (m : Module) (f i : ℕ) (name : Name) (new other : Module) (at to : ℕ) → IsValid m → HasNoFloat m → IsSliced m f i name new at
+    → IsSliced m f i name other to
     → (new ≡ other) × (at ≡ to)
 one_sliced m f i name new other at to valid integer p q =
     let C = callees m in
@@ -86,14 +90,17 @@ one_sliced m f i name new other at to valid integer p q =
     let kept : p.kept ≡ q.kept =
     one_test p.kept q.kept (KeptAt C p.kind p.body i) p.exact
     (subst (λ (b : Body). Tells q.kept (KeptAt C p.kind b i)) (sym body) (subst (λ (t : FuncType). Tells q.kept (KeptAt C t q.body i)) (sym kind) q.exact)) in
-    let typed : Typed m i q.types p.kind p.body = subst (λ (b : Body). Typed m i q.types p.kind b) (sym body) (subst (λ (t : FuncType). Typed m i q.types t q.body) (sym kind) q.typed) in
+    let typed : Typed m i q.types p.kind p.body =
+    subst (λ (b : Body). Typed m i q.types p.kind b) (sym body) (subst (λ (t : FuncType). Typed m i q.types t q.body) (sym kind) q.typed) in
     let own = own_body m valid integer f p.type p.kind p.body p.own p.kind_is p.has_body in
     let cut : cut_of C p.kept p.types p.kind p.body i ≡ cut_of C q.kept q.types q.kind q.body i =
     one_cut_code m p.kind p.body own (nat_eq i) p.kept every p.types q.types p.typed typed
-    ∙ ap (λ (K : Node → Bool). cut_of C K q.types p.kind p.body i) kept ∙ ap (λ (t : FuncType). cut_of C q.kept q.types t p.body i) kind ∙ ap (λ (b : Body). cut_of C q.kept q.types q.kind b i) body in
+    ∙ ap (λ (K : Node → Bool). cut_of C K q.types p.kind p.body i) kept ∙ ap (λ (t : FuncType). cut_of C q.kept q.types t p.body i) kind
+    ∙ ap (λ (b : Body). cut_of C q.kept q.types q.kind b i) body in
     let with : Marked → Body → Body = λ k b. record b { code = list_of (unmarked k) } in
     let whole : with (cut_of C p.kept p.types p.kind p.body i) p.body ≡ with (cut_of C q.kept q.types q.kind q.body i) q.body =
     ap (λ (k : Marked). with k p.body) cut ∙ ap (λ (b : Body). with (cut_of C q.kept q.types q.kind q.body i) b) body in (
-      p.is ∙ ap (λ (t : ℕ). appended m t (with (cut_of C p.kept p.types p.kind p.body i) p.body) name) type ∙ ap (λ (b : Body). appended m q.type b name) whole ∙ sym q.is,
+      p.is ∙ ap (λ (t : ℕ). appended m t (with (cut_of C p.kept p.types p.kind p.body i) p.body) name) type
+          ∙ ap (λ (b : Body). appended m q.type b name) whole ∙ sym q.is,
       p.at_is ∙ ap watched_at cut ∙ sym q.at_is,
     )

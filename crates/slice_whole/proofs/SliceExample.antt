@@ -97,7 +97,11 @@ well_formed = record {
 
 typed : IsValidBody adder two_to_one (body_with sum)
 unfolding sum onto code_of_row
-typed = (I32 ∷ [], ([], I32 ∷ [], [], (I32, refl, (refl, refl)), refl, refl), (I32 ∷ I32 ∷ [], ([], I32 ∷ [], I32 ∷ [], (I32, refl, (refl, refl)), refl, refl), (I32 ∷ [], (I32 ∷ I32 ∷ [], I32 ∷ [], [], (refl, refl), refl, refl), refl)))
+typed = (
+  I32 ∷ [],
+  ([], I32 ∷ [], [], (I32, refl, (refl, refl)), refl, refl),
+  (I32 ∷ I32 ∷ [], ([], I32 ∷ [], I32 ∷ [], (I32, refl, (refl, refl)), refl, refl), (I32 ∷ [], (I32 ∷ I32 ∷ [], I32 ∷ [], [], (refl, refl), refl, refl), refl)),
+)
 
 no_type : {A : Type 0} (t : FuncType) → None ≡ Some t → A
 no_type t e = absurd (grind arith)
@@ -143,20 +147,30 @@ limits : WithinLimits most_read adder
 unfolding sum onto code_of_row
 limits limit.Functions k n c = let e = c.1 in omega arith
 limits limit.Params k n (t, is, e) =
-    let few = all_at (λ (t : FuncType). length t.params ≤ 64) adder.types k t (All-cons (λ (t : FuncType). length t.params ≤ 64) two_to_one [] (omega arith) (All-nil _)) is in omega arith
+    let few = all_at (λ (t : FuncType). length t.params ≤ 64) adder.types k t
+    (All-cons (λ (t : FuncType). length t.params ≤ 64) two_to_one [] (omega arith) (All-nil _)) is in omega arith
 limits limit.Globals k n c = let e = c.1 in omega arith
 limits limit.TableSize k n (l, is, e) = absurd (grind arith)
 limits limit.Locals k n (b, own, e) =
-    let few = all_at (λ (b : Body). local_count b.locals ≤ 8192) adder.bodies (k - 0) b (All-cons (λ (b : Body). local_count b.locals ≤ 8192) (body_with sum) [] (omega arith) (All-nil _)) own.1 in omega arith
+    let few = all_at (λ (b : Body). local_count b.locals ≤ 8192) adder.bodies (k - 0) b
+    (All-cons (λ (b : Body). local_count b.locals ≤ 8192) (body_with sum) [] (omega arith) (All-nil _)) own.1 in omega arith
 limits limit.Positions k n (b, own, e) =
-    let few = all_at (λ (b : Body). positions b.code ≤ 100000) adder.bodies (k - 0) b (All-cons (λ (b : Body). positions b.code ≤ 100000) (body_with sum) [] (omega arith) (All-nil _)) own.1 in omega arith
+    let few = all_at (λ (b : Body). positions b.code ≤ 100000) adder.bodies (k - 0) b
+    (All-cons (λ (b : Body). positions b.code ≤ 100000) (body_with sum) [] (omega arith) (All-nil _)) own.1 in omega arith
 
 flat : IsFlat adder
 unfolding sum onto code_of_row
 flat = record {
   valid = valid;
   limits = limits;
-  small = (All-cons IsSmallType two_to_one [] (All-cons IsI32 I32 (I32 ∷ []) refl (All-cons IsI32 I32 [] refl (All-nil IsI32)), All-cons IsI32 I32 [] refl (All-nil IsI32)) (All-nil IsSmallType), All-cons IsSmallBody (body_with sum) [] (All-nil _, (tt, (tt, (tt, tt)))) (All-nil IsSmallBody));
+  small = (
+    All-cons IsSmallType two_to_one [] (
+      All-cons IsI32 I32 (I32 ∷ []) refl (All-cons IsI32 I32 [] refl (All-nil IsI32)),
+      All-cons IsI32 I32 [] refl
+          (All-nil IsI32),
+    ) (All-nil IsSmallType),
+    All-cons IsSmallBody (body_with sum) [] (All-nil _, (tt, (tt, (tt, tt)))) (All-nil IsSmallBody),
+  );
   only = record { no_imports = refl; no_tables = refl; no_memories = refl; no_globals = refl; no_start = refl; no_elements = refl; no_data = refl; no_names = refl };
   of_functions = All-nil _;
 }
@@ -171,7 +185,8 @@ small_types : IsSmallType two_to_one
 small_types = (All-cons IsI32 I32 (I32 ∷ []) refl (All-cons IsI32 I32 [] refl (All-nil IsI32)), All-cons IsI32 I32 [] refl (All-nil IsI32))
 
 -- one of its three positions, whose cut is this code
-sliced_at : (i : ℕ) (name : Name) (code : List Instr) (at : ℕ) → i < count (code_of sum) → list_of (unmarked (cut_with i (kept_at i))) ≡ code → watched_at (cut_with i (kept_at i)) ≡ at
+sliced_at : (i : ℕ) (name : Name) (code : List Instr) (at : ℕ) → i < count (code_of sum) → list_of (unmarked (cut_with i (kept_at i))) ≡ code
+    → watched_at (cut_with i (kept_at i)) ≡ at
     → IsSliced adder 0 i name (appended adder 0 (body_with code) name) at
 unfolding kept_at
 sliced_at i name code at lt cut place =
@@ -188,7 +203,8 @@ sliced_at i name code at lt cut place =
       kept = kept_at i;
       exact = flags_tell (callees adder) 1 (nat_eq i) (code_of sum) small_sum;
       types = all_i32;
-      typed = places_i32 (context_of adder two_to_one (body_with sum)) (nat_eq i) 1 (code_of sum) small_sum (locals_i32 two_to_one (body_with sum) small_types (All-nil _, small_sum));
+      typed = places_i32 (context_of adder two_to_one (body_with sum)) (nat_eq i) 1 (code_of sum) small_sum
+          (locals_i32 two_to_one (body_with sum) small_types (All-nil _, small_sum));
       is = ap (λ (is : List Instr). appended adder 0 (body_with is) name) (sym cut);
       at_is = sym place;
     }

@@ -4,6 +4,7 @@ use Rattle.wasm_types.specs.declared.module.Name.{Name}
 use Rattle.wasm_types.specs.declared.module.Value.{Value}
 use Rattle.wasm_types.specs.declared.module.Module.{Module}
 use Rattle.wasm_types.specs.declared.run.Event.{Event}
+use Rattle.wasm_types.specs.Small.{IsSmall}
 use Rattle.wasm_meaning.specs.State.{State}
 use Rattle.wasm_meaning.specs.Fits.{Fits}
 use Rattle.wasm_meaning.specs.Invoke.{Returns}
@@ -21,3 +22,7 @@ Follows m f i new g at =
 -- The slice of a function of a flat module follows it.
 abbrev pub SliceFollows : Type 0
 SliceFollows = (m : Module) → IsFlat m → (f i : ℕ) (name : Name) (new : Module) (at : ℕ) → IsSliced m f i name new at → Follows m f i new (func_count m) at
+
+-- The sliced module has the types and the four instructions of flat modules alone.
+abbrev pub SliceIsSmall : Type 0
+SliceIsSmall = (m : Module) → IsFlat m → (f i : ℕ) (name : Name) (new : Module) (at : ℕ) → IsSliced m f i name new at → IsSmall new

@@ -6,5 +6,5 @@ mod laws;
 mod slicing;
 
 pub use flat::is_flat;
-pub use laws::law_slice_follows;
+pub use laws::{law_slice_follows, law_slice_is_small};
 pub use slicing::{SliceRefusal, Sliced, slice};
