@@ -228,19 +228,19 @@ module _ (Z : Fixed) (W : Cover) (G : Calls → Type 0) (w : Mode) (S : Sites) (
         (λ d i. off-or-on (K d) (λ on. not_both (K (At p)) (fa.shadows p d (arms kind s is hd (subst (λ z. Inside S (p + 1) z d) (sym ee) i)) on) off));
     join = λ on_w off. off-or-on (K (Join p)) (λ on. not_both (K (At p)) (fa.shadows p (Join p) (if_join kind s is hd) on) off);
     enters = λ x nd. fa.before (At p) f x (from_at s is (into 0 ins)) (writes_only (bounds Z.m W) S x p s is (quiet x)) nd;
-    leaves_it = λ x nd. fa.before (Join p) s.next x (from_join s is tt) no_join nd;
+    leaves_it = λ x nd. fa.before (Join p) s.next x (from_join s is (subst HasJoin (sym hd) tt)) no_join nd;
   }
 
-  block_ok : (m : Bool) (r p e : ℕ) (s : Site) (f : Node) → IsSite S p s → m ≡ false → r ≤ 1 → slice_get s.inside 0 ≡ Some f
+  block_ok : (m : Bool) (r p e : ℕ) (s : Site) (f : Node) → IsSite S p s → m ≡ false → r ≤ 1 → HasJoin s.head → slice_get s.inside 0 ≡ Some f
       → ((x : Loc) → writes_at (bounds Z.m W) s.head x ≡ false) → BlockOk Z W G w K M every N m r p e f s.next
-  block_ok m r p e s f is em small ins quiet = record {
+  block_ok m r p e s f is em small joins ins quiet = record {
     small = small;
     marks = λ on. not_watched m em on;
     shows = λ on. refl;
     dark = λ on_w off i le lt. absurd (true≢false (sym on_w ∙ fa.no_cut));
     join = λ on_w off. absurd (true≢false (sym on_w ∙ fa.no_cut));
     enters = λ x nd. fa.before (At p) f x (from_at s is (into 0 ins)) (writes_only (bounds Z.m W) S x p s is (quiet x)) nd;
-    leaves_it = λ x nd. fa.before (Join p) s.next x (from_join s is tt) no_join nd;
+    leaves_it = λ x nd. fa.before (Join p) s.next x (from_join s is joins) no_join nd;
   }
 
   -- what is not kept where a branch is not kept
@@ -286,7 +286,7 @@ module _ (Z : Fixed) (W : Cover) (G : Calls → Type 0) (w : Mode) (S : Sites) (
       let e1 = one_end (Join p) (arity r) (end_names (callees Z.m) body (p + 1) []) in
       let e2 = inner_ends (callees Z.m) body (p + 1) [] in
       let e3 = inner_ends (callees Z.m) rest e (named (arity r) (Join p) names) in (
-        block_ok m (arity r) p e _ (first (p + 1) body (Join p)) at.0 si.0 (arity_small r) refl (λ x. refl),
+        block_ok m (arity r) p e _ (first (p + 1) body (Join p)) at.0 si.0 (arity_small r) tt refl (λ x. refl),
         closed_of body (block_label p (arity r) e ∷ ctx) (Join p) (arity r) (p + 1) [] (has_front S (p + 1) bs rs at.1) ty.0 si.1
             (omega arith, nested-sub ctx _ _ (omega arith) nest) (inner_rule p (arity r) body (p + 1) (λ z a. sub z (among_left e1 (e2 ++ e3) z a)))
             (λ z a. sub z (among_right e1 (e2 ++ e3) z (among_left e2 e3 z a))) (K (At p)),
@@ -302,7 +302,7 @@ module _ (Z : Fixed) (W : Cover) (G : Calls → Type 0) (w : Mode) (S : Sites) (
       let e1 = one_end (Join p) (arity r) (end_names (callees Z.m) body (p + 1) []) in
       let e2 = inner_ends (callees Z.m) body (p + 1) [] in
       let e3 = inner_ends (callees Z.m) rest e (named (arity r) (Join p) names) in (
-        block_ok m (arity r) p e _ (first (p + 1) body (Join p)) at.0 si.0 (arity_small r) refl (λ x. refl),
+        block_ok m (arity r) p e _ (first (p + 1) body (Join p)) at.0 si.0 (arity_small r) tt refl (λ x. refl),
         closed_of body (loop_label p e ∷ ctx) (Join p) (arity r) (p + 1) [] (has_front S (p + 1) bs rs at.1) ty.0 si.1
             (omega arith, nested-sub ctx _ _ (omega arith) nest) (inner_rule p (arity r) body (p + 1) (λ z a. sub z (among_left e1 (e2 ++ e3) z a)))
             (λ z a. sub z (among_right e1 (e2 ++ e3) z (among_left e2 e3 z a))) (K (At p)),

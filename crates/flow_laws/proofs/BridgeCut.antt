@@ -13,7 +13,7 @@ use Rattle.wasm_types.specs.Actions.{Callees, callees, takes, leaves}
 use Rattle.wasm_types.specs.Labels.{arity, carried, outermost, Label, block_label, loop_label, arities, point_of, join_of, loop_of, start_of, stop_of, first}
 use Rattle.wasm_types.specs.declared.place.Node.{Node}
 use Rattle.wasm_types.specs.Nodes.{At, Join, named, made, AllIn}
-use Rattle.wasm_types.specs.Sites.{DoHead, IfHead, BrIfHead, BrTableHead, Site, Sites, sites, IsSite, Branches, EndAt, one_end, end_names, inner_ends, all_operands, past, into, branches, Leads, from_at, from_join, carry_names, Among}
+use Rattle.wasm_types.specs.Sites.{HasJoin, DoHead, IfHead, BrIfHead, BrTableHead, Site, Sites, sites, IsSite, Branches, EndAt, one_end, end_names, inner_ends, all_operands, past, into, branches, Leads, from_at, from_join, carry_names, Among}
 use Rattle.wasm_types.specs.Reaching.{Writes}
 use Rattle.wasm_types.specs.Shadow.{Inside, arms, later, around, looping, InShadow, if_join}
 use Rattle.flow_domain.specs.Heights.{HasLabel, Shaped}
@@ -97,12 +97,12 @@ module _ (Z : Fixed) (W : Cover) (G : Calls → Type 0) (S : Sites) (ends : List
         (λ d i. off-or-on (K d) (λ on. not_both (K (At p)) (fa.shadows p d (arms kind s is hd (subst (λ z. Inside S (p + 1) z d) (sym ee) i)) on) off));
     join = λ on_w off. off-or-on (K (Join p)) (λ on. not_both (K (At p)) (fa.shadows p (Join p) (if_join kind s is hd) on) off);
     enters = λ x nd. fa.before (At p) f x (from_at s is (into 0 ins)) (writes_only (bounds Z.m W) S x p s is (quiet x)) nd;
-    leaves_it = λ x nd. fa.before (Join p) s.next x (from_join s is tt) no_join nd;
+    leaves_it = λ x nd. fa.before (Join p) s.next x (from_join s is (subst HasJoin (sym hd) tt)) no_join nd;
   }
 
-  block_ok : (m : Bool) (r p e : ℕ) (s : Site) (f : Node) → IsSite S p s → s.mark ≡ m → s.stop ≡ e → r ≤ 1 → slice_get s.inside 0 ≡ Some f
+  block_ok : (m : Bool) (r p e : ℕ) (s : Site) (f : Node) → IsSite S p s → s.mark ≡ m → s.stop ≡ e → r ≤ 1 → HasJoin s.head → slice_get s.inside 0 ≡ Some f
       → ((x : Loc) → writes_at (bounds Z.m W) s.head x ≡ false) → BlockOk Z W G Cuts K M P N m r p e f s.next
-  block_ok m r p e s f is em ee small ins quiet = record {
+  block_ok m r p e s f is em ee small joins ins quiet = record {
     small = small;
     marks = λ on. fa.watched p s is (em ∙ on);
     shows = λ on. sh.joined p on;
@@ -110,7 +110,7 @@ module _ (Z : Fixed) (W : Cover) (G : Calls → Type 0) (S : Sites) (ends : List
         (off-or-on (K (At i)) (λ on. not_both (K (At p)) (fa.around_at p i s is le' lt' on) off), off-or-on (K (Join i)) (λ on. not_both (K (At p)) (fa.around_join p i s is le' lt' on) off)));
     join = λ on_w off. off-or-on (K (Join p)) (λ on. not_both (K (At p)) (fa.own_join p on) off);
     enters = λ x nd. fa.before (At p) f x (from_at s is (into 0 ins)) (writes_only (bounds Z.m W) S x p s is (quiet x)) nd;
-    leaves_it = λ x nd. fa.before (Join p) s.next x (from_join s is tt) no_join nd;
+    leaves_it = λ x nd. fa.before (Join p) s.next x (from_join s is joins) no_join nd;
   }
 
   -- what is not kept where a branch is not kept
@@ -157,7 +157,7 @@ module _ (Z : Fixed) (W : Cover) (G : Calls → Type 0) (S : Sites) (ends : List
       let e1 = one_end (Join p) (arity r) (end_names (callees Z.m) body (p + 1) []) in
       let e2 = inner_ends (callees Z.m) body (p + 1) [] in
       let e3 = inner_ends (callees Z.m) rest e (named (arity r) (Join p) names) in (
-        block_ok m (arity r) p e _ (first (p + 1) body (Join p)) at.0 refl refl (arity-few r) refl (λ x. refl),
+        block_ok m (arity r) p e _ (first (p + 1) body (Join p)) at.0 refl refl (arity-few r) tt refl (λ x. refl),
         cut_closed_of body (block_label p (arity r) e ∷ ctx) (Join p) (arity r) (p + 1) [] (has_front S (p + 1) bs rs at.1) ty.0
             (omega arith, nested-sub ctx _ _ (omega arith) nest) (K (At p)) (inner_rule p (arity r) body (p + 1) (λ z a. sub z (among_left e1 (e2 ++ e3) z a)))
             (λ z a. sub z (among_right e1 (e2 ++ e3) z (among_left e2 e3 z a))),
@@ -173,7 +173,7 @@ module _ (Z : Fixed) (W : Cover) (G : Calls → Type 0) (S : Sites) (ends : List
       let e1 = one_end (Join p) (arity r) (end_names (callees Z.m) body (p + 1) []) in
       let e2 = inner_ends (callees Z.m) body (p + 1) [] in
       let e3 = inner_ends (callees Z.m) rest e (named (arity r) (Join p) names) in (
-        block_ok m (arity r) p e _ (first (p + 1) body (Join p)) at.0 refl refl (arity-few r) refl (λ x. refl),
+        block_ok m (arity r) p e _ (first (p + 1) body (Join p)) at.0 refl refl (arity-few r) tt refl (λ x. refl),
         cut_closed_of body (loop_label p e ∷ ctx) (Join p) (arity r) (p + 1) [] (has_front S (p + 1) bs rs at.1) ty.0
             (omega arith, nested-sub ctx _ _ (omega arith) nest) (K (At p)) (inner_rule p (arity r) body (p + 1) (λ z a. sub z (among_left e1 (e2 ++ e3) z a)))
             (λ z a. sub z (among_right e1 (e2 ++ e3) z (among_left e2 e3 z a))),

@@ -10,6 +10,7 @@ use crate::list::{Bytes, read_range};
 use crate::production::{Made, Of, Plain};
 use crate::types::TableType;
 use leb_codec::read_u32;
+use opcode_table::export_kind;
 use simdutf8::basic::from_utf8;
 use sqlite_items::Items;
 use wasm_types::{Export, ExportKind, GlobalType, Import, ImportKind, Limits, Name};
@@ -117,13 +118,8 @@ impl Plain for ExportKind {
         if at >= bytes.len() {
             return None;
         }
-        match bytes[at] {
-            0x00 => Some((ExportKind::Func, at + 1)),
-            0x01 => Some((ExportKind::Table, at + 1)),
-            0x02 => Some((ExportKind::Memory, at + 1)),
-            0x03 => Some((ExportKind::Global, at + 1)),
-            _ => None,
-        }
+        let kind = export_kind(bytes[at])?;
+        Some((kind, at + 1))
     }
 }
 

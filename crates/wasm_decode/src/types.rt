@@ -10,6 +10,7 @@ ghost use Rattle.wasm_decode.specs.Shapes.{func_type_makes};
 use crate::list::{Byte, Vector};
 use crate::production::{Made, Plain};
 use leb_codec::read_u32;
+use opcode_table::{mutable_of, val_type};
 use sqlite_items::Items;
 use wasm_types::{FuncType, GlobalType, Limits, ValType};
 
@@ -24,13 +25,8 @@ impl Plain for ValType {
         if at >= bytes.len() {
             return None;
         }
-        match bytes[at] {
-            0x7F => Some((ValType::I32, at + 1)),
-            0x7E => Some((ValType::I64, at + 1)),
-            0x7D => Some((ValType::F32, at + 1)),
-            0x7C => Some((ValType::F64, at + 1)),
-            _ => None,
-        }
+        let kind = val_type(bytes[at])?;
+        Some((kind, at + 1))
     }
 }
 
@@ -86,11 +82,8 @@ fn find_mutable(bytes: &[u8], at: usize) -> Option<(bool, usize)>
     if at >= bytes.len() {
         return None;
     }
-    match bytes[at] {
-        0x00 => Some((false, at + 1)),
-        0x01 => Some((true, at + 1)),
-        _ => None,
-    }
+    let mutable = mutable_of(bytes[at])?;
+    Some((mutable, at + 1))
 }
 
 impl Plain for GlobalType {
