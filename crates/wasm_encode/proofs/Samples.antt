@@ -30,7 +30,8 @@ use Rattle.wasm_types.proofs.CodeLemmas.{onto-if}
 use Rattle.wasm_types.proofs.LeastLemmas.{canon_lengths}
 
 -- equal in each part
-pub same_module : (P : Module → Type 0) (m n : Module) → m.types ≡ n.types → m.imports ≡ n.imports → m.funcs ≡ n.funcs → m.tables ≡ n.tables → m.mems ≡ n.mems → m.globals ≡ n.globals → m.exports ≡ n.exports → m.start ≡ n.start
+pub same_module : (P : Module → Type 0) (m n : Module) → m.types ≡ n.types → m.imports ≡ n.imports → m.funcs ≡ n.funcs → m.tables ≡ n.tables
+    → m.mems ≡ n.mems → m.globals ≡ n.globals → m.exports ≡ n.exports → m.start ≡ n.start
     → m.elems ≡ n.elems → m.bodies ≡ n.bodies → m.segments ≡ n.segments → m.names ≡ n.names → P n → P m
 same_module P m n types imports funcs tables mems globals exports start elems bodies segments names h =
     let same : (let a : Module = record { types = m.types; imports = m.imports; funcs = m.funcs; tables = m.tables; mems = m.mems; globals = m.globals; exports = m.exports; start = m.start; elems = m.elems; bodies = m.bodies; segments = m.segments; names = m.names } in a) ≡ (let b : Module = record { types = n.types; imports = n.imports; funcs = n.funcs; tables = n.tables; mems = n.mems; globals = n.globals; exports = n.exports; start = n.start; elems = n.elems; bodies = n.bodies; segments = n.segments; names = n.names } in b) = cc in
@@ -243,7 +244,9 @@ pub start_short : length (canon_start (Some 0)) < 200
 unfolding shortest_unsigned
 start_short = omega arith
 
-pub whole_short : (m : Module) → length (canon_list 1 canon_func_type m.types) < 200 → length (canon_list 2 canon_import m.imports) < 200 → length (canon_list 3 shortest_u32 m.funcs) < 200 → length (canon_list 4 canon_table_type m.tables) < 200
+pub whole_short : (m : Module) → length (canon_list 1 canon_func_type m.types) < 200 → length (canon_list 2 canon_import m.imports) < 200
+    → length (canon_list 3 shortest_u32 m.funcs) < 200 → length (canon_list 4 canon_table_type m.tables) < 200
     → length (canon_list 5 canon_limits m.mems) < 200 → length (canon_list 6 canon_global m.globals) < 200 → length (canon_list 7 canon_export m.exports) < 200 → length (canon_start m.start) < 200 → length (canon_list 9 canon_elem m.elems) < 200
     → length (canon_list 10 canon_entry m.bodies) < 200 → length (canon_list 11 canon_segment m.segments) < 200 → length (canon_names m.names) < 200 → length (canon m) < 2 ^ 32
-whole_short m types imports funcs tables mems globals exports start elems bodies segments names = omega (arith, canon_lengths m, types, imports, funcs, tables, mems, globals, exports, start, elems, bodies, segments, names)
+whole_short m types imports funcs tables mems globals exports start elems bodies segments names =
+    omega (arith, canon_lengths m, types, imports, funcs, tables, mems, globals, exports, start, elems, bodies, segments, names)
