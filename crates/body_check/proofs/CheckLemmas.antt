@@ -23,21 +23,24 @@ abbrev pub Step : Context → List (List ValType) → Instr → List ValType →
 Step c ls i s s' = Leads c ls (onto i done) s s'
 
 -- from the instruction on, and from what stands behind it on
-pub leads-split : (c : Context) (ls : List (List ValType)) (i : Instr) (rest : Code) (s s' : List ValType) → Leads c ls (onto i rest) s s' → After (Step c ls i) (Leads c ls rest) s s'
+pub leads-split : (c : Context) (ls : List (List ValType)) (i : Instr) (rest : Code) (s s' : List ValType) → Leads c ls (onto i rest) s s'
+    → After (Step c ls i) (Leads c ls rest) s s'
 unfolding onto code_of_row
 leads-split c ls (Block' k m row) rest s s' h = (values_of k ++ s, (h.0, refl), h.1)
 leads-split c ls (Loop' k m row) rest s s' h = (values_of k ++ s, (h.0, refl), h.1)
 leads-split c ls (If' k m first n second) rest s s' h = (values_of k ++ h.0, (h.0, h.1, h.2, h.3, refl), h.4)
 leads-split c ls _ rest s s' h = (h.0, (h.0, h.1, refl), h.2)
 
-pub leads-join : (c : Context) (ls : List (List ValType)) (i : Instr) (rest : Code) (s s' : List ValType) → After (Step c ls i) (Leads c ls rest) s s' → Leads c ls (onto i rest) s s'
+pub leads-join : (c : Context) (ls : List (List ValType)) (i : Instr) (rest : Code) (s s' : List ValType) → After (Step c ls i) (Leads c ls rest) s s'
+    → Leads c ls (onto i rest) s s'
 unfolding onto code_of_row
 leads-join c ls (Block' k m row) rest s s' h = (h.1.0, subst (λ z. Leads c ls rest z s') (sym h.1.1) h.2)
 leads-join c ls (Loop' k m row) rest s s' h = (h.1.0, subst (λ z. Leads c ls rest z s') (sym h.1.1) h.2)
 leads-join c ls (If' k m first n second) rest s s' h = (h.1.0, h.1.1, h.1.2, h.1.3, subst (λ z. Leads c ls rest z s') (sym h.1.4) h.2)
 leads-join c ls _ rest s s' h = (h.1.0, h.1.1, subst (λ z. Leads c ls rest z s') (sym h.1.2) h.2)
 
-pub code-follows : (c : Context) (ls : List (List ValType)) (i : Instr) (rest : Code) (a b d : Stack) (ok : Bool) → Exact a (Step c ls i) b → Follows b (Leads c ls rest) ok d → Follows a (Leads c ls (onto i rest)) ok d
+pub code-follows : (c : Context) (ls : List (List ValType)) (i : Instr) (rest : Code) (a b d : Stack) (ok : Bool) → Exact a (Step c ls i) b
+    → Follows b (Leads c ls rest) ok d → Follows a (Leads c ls (onto i rest)) ok d
 code-follows c ls i rest a b d ok e f = follows-as a d (After (Step c ls i) (Leads c ls rest)) (Leads c ls (onto i rest)) ok
     (λ s s' h. leads-join c ls i rest s s' h) (λ s s' h. leads-split c ls i rest s s' h)
     (follows-then a b d (Step c ls i) (Leads c ls rest) ok e f)
@@ -57,7 +60,8 @@ block-step c ls i k inner a b is valid e = subst (λ (z : Code). Exact a (Leads 
 
 pub block-fails : (c : Context) (ls : List (List ValType)) (i : Instr) (k : Option ValType) (inner : List Instr) (a : Stack) → i ≡ Block k inner
     → (Leads c (values_of k ∷ ls) (code_of inner) [] (values_of k) → ⊥) → Fails a (Step c ls i)
-block-fails c ls i k inner a is invalid = subst (λ (z : Code). Fails a (Leads c ls z)) (sym (ap (λ z. onto z done) is ∙ onto-block k inner done)) (λ s s' st r. invalid r.0)
+block-fails c ls i k inner a is invalid =
+    subst (λ (z : Code). Fails a (Leads c ls z)) (sym (ap (λ z. onto z done) is ∙ onto-block k inner done)) (λ s s' st r. invalid r.0)
 
 pub loop-step : (c : Context) (ls : List (List ValType)) (i : Instr) (k : Option ValType) (inner : List Instr) (a b : Stack) → i ≡ Loop k inner
     → Leads c ([] ∷ ls) (code_of inner) [] (values_of k) → Exact a (Pushes (values_of k)) b → Exact a (Step c ls i) b
@@ -66,19 +70,24 @@ loop-step c ls i k inner a b is valid e = subst (λ (z : Code). Exact a (Leads c
 
 pub loop-fails : (c : Context) (ls : List (List ValType)) (i : Instr) (k : Option ValType) (inner : List Instr) (a : Stack) → i ≡ Loop k inner
     → (Leads c ([] ∷ ls) (code_of inner) [] (values_of k) → ⊥) → Fails a (Step c ls i)
-loop-fails c ls i k inner a is invalid = subst (λ (z : Code). Fails a (Leads c ls z)) (sym (ap (λ z. onto z done) is ∙ onto-loop k inner done)) (λ s s' st r. invalid r.0)
+loop-fails c ls i k inner a is invalid =
+    subst (λ (z : Code). Fails a (Leads c ls z)) (sym (ap (λ z. onto z done) is ∙ onto-loop k inner done)) (λ s s' st r. invalid r.0)
 
-pub if-step : (c : Context) (ls : List (List ValType)) (i : Instr) (k : Option ValType) (first second : List Instr) (a b d : Stack) → i ≡ If k first second → Exact a (Pops (I32 ∷ [])) b
+pub if-step : (c : Context) (ls : List (List ValType)) (i : Instr) (k : Option ValType) (first second : List Instr) (a b d : Stack)
+    → i ≡ If k first second → Exact a (Pops (I32 ∷ [])) b
     → Leads c (values_of k ∷ ls) (code_of first) [] (values_of k) → Leads c (values_of k ∷ ls) (code_of second) [] (values_of k) → Exact b (Pushes (values_of k)) d → Exact a (Step c ls i) d
-if-step c ls i k first second a b d is p valid also e = subst (λ (z : Code). Exact a (Leads c ls z) d) (sym (ap (λ z. onto z done) is ∙ onto-if k first second done))
+if-step c ls i k first second a b d is p valid also e =
+    subst (λ (z : Code). Exact a (Leads c ls z) d) (sym (ap (λ z. onto z done) is ∙ onto-if k first second done))
     (follows-as a d (After (Pops (I32 ∷ [])) (Pushes (values_of k))) (Leads c ls (branch k (code_of first) (code_of second) done)) true
     (λ s s' r. (r.0, r.1, valid, also, sym r.2)) (λ s s' r. (r.0, r.1, sym r.4))
     (follows-then a b d (Pops (I32 ∷ [])) (Pushes (values_of k)) true p e))
 
-if-as : (c : Context) (ls : List (List ValType)) (i : Instr) (k : Option ValType) (first second : List Instr) (a : Stack) → i ≡ If k first second → Fails a (Leads c ls (branch k (code_of first) (code_of second) done)) → Fails a (Step c ls i)
+if-as : (c : Context) (ls : List (List ValType)) (i : Instr) (k : Option ValType) (first second : List Instr) (a : Stack) → i ≡ If k first second
+    → Fails a (Leads c ls (branch k (code_of first) (code_of second) done)) → Fails a (Step c ls i)
 if-as c ls i k first second a is f = subst (λ (z : Code). Fails a (Leads c ls z)) (sym (ap (λ z. onto z done) is ∙ onto-if k first second done)) f
 
-pub if-no-number : (c : Context) (ls : List (List ValType)) (i : Instr) (k : Option ValType) (first second : List Instr) (a : Stack) → i ≡ If k first second → Fails a (Pops (I32 ∷ [])) → Fails a (Step c ls i)
+pub if-no-number : (c : Context) (ls : List (List ValType)) (i : Instr) (k : Option ValType) (first second : List Instr) (a : Stack)
+    → i ≡ If k first second → Fails a (Pops (I32 ∷ [])) → Fails a (Step c ls i)
 if-no-number c ls i k first second a is f = if-as c ls i k first second a is (λ s s' st r. f s r.0 st r.1)
 
 pub if-no-first : (c : Context) (ls : List (List ValType)) (i : Instr) (k : Option ValType) (first second : List Instr) (a : Stack) → i ≡ If k first second
@@ -89,7 +98,8 @@ pub if-no-second : (c : Context) (ls : List (List ValType)) (i : Instr) (k : Opt
     → (Leads c (values_of k ∷ ls) (code_of second) [] (values_of k) → ⊥) → Fails a (Step c ls i)
 if-no-second c ls i k first second a is f = if-as c ls i k first second a is (λ s s' st r. f r.3)
 
-pub plain-step : (c : Context) (ls : List (List ValType)) (i : Instr) (a b : Stack) (r : Result Bool NoMemory) → is_plain i ≡ true → IfOk r (λ ok. Follows a (Passes c ls i) ok b) → IfOk r (λ ok. Follows a (Step c ls i) ok b)
+pub plain-step : (c : Context) (ls : List (List ValType)) (i : Instr) (a b : Stack) (r : Result Bool NoMemory) → is_plain i ≡ true
+    → IfOk r (λ ok. Follows a (Passes c ls i) ok b) → IfOk r (λ ok. Follows a (Step c ls i) ok b)
 plain-step c ls i a b (Err e) plain h = tt
 plain-step c ls i a b (Ok ok) plain h = subst (λ (z : Code). Follows a (Leads c ls z) ok b) (sym (onto-one i done plain))
     (follows-as a b (Passes c ls i) (Leads c ls (one i done)) ok (λ s s' r. (s', r, refl)) (λ s s' r. subst (λ z. Passes c ls i s z) r.2 r.1) h)
@@ -100,7 +110,8 @@ pub label-pushed : (ks : List (Option ValType)) (x : Option ValType) → labels_
 label-pushed ks x = ap (map values_of) (reverse-append ks (x ∷ []))
 
 -- from the empty stack to these values
-pub ends-exactly : (R : List ValType → List ValType → Type 0) (a b : Stack) (t : List ValType) (r : Bool) → IsBare a false → Exact a R b → IsTrue r ↔ Stands b t → IsTrue r ↔ R [] t
+pub ends-exactly : (R : List ValType → List ValType → Type 0) (a b : Stack) (t : List ValType) (r : Bool) → IsBare a false → Exact a R b
+    → IsTrue r ↔ Stands b t → IsTrue r ↔ R [] t
 ends-exactly R a b t r bare e h = (
   λ q. let x = e.from t (h.0 q) in subst (λ z. R z t) (bare-empty a bare x.0 x.1) x.2,
   λ v. h.1 (e.onto [] t (bare-nothing a bare) v),
@@ -110,11 +121,15 @@ pub never-ends : (R : List ValType → List ValType → Type 0) (a : Stack) (t :
 never-ends R a t bare f v = f [] t (bare-nothing a bare) v
 
 -- what was answered, with equal labels
-pub moved : (c : Context) (ks js : List (Option ValType)) (i : Instr) (a b : Stack) (ok q : Bool) → ks ≡ js → ok ≡ q → Follows a (Step c (labels_of ks) i) ok b → Follows a (Step c (labels_of js) i) q b
-moved c ks js i a b ok q e d h = subst (λ (z : Bool). Follows a (Step c (labels_of js) i) z b) d (subst (λ (z : List (Option ValType)). Follows a (Step c (labels_of z) i) ok b) e h)
+pub moved : (c : Context) (ks js : List (Option ValType)) (i : Instr) (a b : Stack) (ok q : Bool) → ks ≡ js → ok ≡ q
+    → Follows a (Step c (labels_of ks) i) ok b → Follows a (Step c (labels_of js) i) q b
+moved c ks js i a b ok q e d h =
+    subst (λ (z : Bool). Follows a (Step c (labels_of js) i) z b) d (subst (λ (z : List (Option ValType)). Follows a (Step c (labels_of z) i) ok b) e h)
 
-pub valid-as : (c : Context) (ks js : List (Option ValType)) (k : Option ValType) (xs ys : List Instr) → ks ≡ js → xs ≡ ys → Leads c (values_of k ∷ labels_of ks) (code_of xs) [] (values_of k) → Leads c (values_of k ∷ labels_of js) (code_of ys) [] (values_of k)
+pub valid-as : (c : Context) (ks js : List (Option ValType)) (k : Option ValType) (xs ys : List Instr) → ks ≡ js → xs ≡ ys
+    → Leads c (values_of k ∷ labels_of ks) (code_of xs) [] (values_of k) → Leads c (values_of k ∷ labels_of js) (code_of ys) [] (values_of k)
 valid-as c ks js k xs ys e d h = subst (λ (z : List Instr). Leads c (values_of k ∷ labels_of js) (code_of z) [] (values_of k)) d (subst (λ (z : List (Option ValType)). Leads c (values_of k ∷ labels_of z) (code_of xs) [] (values_of k)) e h)
 
-pub passes-as : (c : Context) (ks js : List (Option ValType)) (i : Instr) (a b : Stack) (r : Result Bool NoMemory) → ks ≡ js → IfOk r (λ ok. Follows a (Passes c (labels_of ks) i) ok b) → IfOk r (λ ok. Follows a (Passes c (labels_of js) i) ok b)
+pub passes-as : (c : Context) (ks js : List (Option ValType)) (i : Instr) (a b : Stack) (r : Result Bool NoMemory) → ks ≡ js
+    → IfOk r (λ ok. Follows a (Passes c (labels_of ks) i) ok b) → IfOk r (λ ok. Follows a (Passes c (labels_of js) i) ok b)
 passes-as c ks js i a b r e h = subst (λ (z : List (Option ValType)). IfOk r (λ ok. Follows a (Passes c (labels_of z) i) ok b)) e h

@@ -11,7 +11,8 @@ use Rattle.wasm_types.specs.declared.module.ValType.{ValType}
 use Rattle.body_check.specs.declared.locals.RunEnd.{RunEnd}
 use Rattle.body_check.specs.Locals.{types_from, Reaches}
 
-pub types-push : (start : ℕ) (es : List RunEnd) (count : ℕ) (e : RunEnd) → Reaches start es count → types_from start (es ++ e ∷ []) ≡ types_from start es ++ replicate (e.end - count) e.kind
+pub types-push : (start : ℕ) (es : List RunEnd) (count : ℕ) (e : RunEnd) → Reaches start es count
+    → types_from start (es ++ e ∷ []) ≡ types_from start es ++ replicate (e.end - count) e.kind
 types-push start [] count e h = append-nil (replicate (e.end - start) e.kind) ∙ ap (λ n. replicate (e.end - n) e.kind) h
 types-push start (f ∷ es) count e h = ap (λ z. replicate (f.end - start) f.kind ++ z) (types-push f.end es count e h.1) ∙ sym (append_assoc (replicate (f.end - start) f.kind) (types_from f.end es) (replicate (e.end - count) e.kind))
 
@@ -28,7 +29,8 @@ above-start start [] count j d h lt = absurd (omega arith)
 above-start start (f ∷ es) count zero d h lt = h.0
 above-start start (f ∷ es) count (suc j) d h lt = omega (arith, above-start f.end es count j d h.1 (omega arith), h.0)
 
-pub ends-rise : (start : ℕ) (es : List RunEnd) (count i j : ℕ) (d : RunEnd) → Reaches start es count → i ≤ j → j < length es → (get_or es i d).end ≤ (get_or es j d).end
+pub ends-rise : (start : ℕ) (es : List RunEnd) (count i j : ℕ) (d : RunEnd) → Reaches start es count → i ≤ j → j < length es
+    → (get_or es i d).end ≤ (get_or es j d).end
 ends-rise start [] count i j d h le lt = absurd (omega arith)
 ends-rise start (f ∷ es) count zero zero d h le lt = omega arith
 ends-rise start (f ∷ es) count zero (suc j) d h le lt = above-start f.end es count j d h.1 (omega arith)
@@ -50,14 +52,16 @@ pub find-run : (start : ℕ) (es : List RunEnd) (count i x y : ℕ) → Reaches 
     → ((j : ℕ) (d : RunEnd) → j < i → (get_or es j d).end ≤ x) → ((j : ℕ) (d : RunEnd) → i ≤ j → j < length es → x < (get_or es j d).end)
     → slice_get (types_from start es) y ≡ option_map (λ (e : RunEnd). e.kind) (slice_get es i)
 find-run start [] count i x y h e low high = refl
-find-run start (f ∷ es) count zero x y h e low high = in-run (f.end - start) f.kind (types_from f.end es) y (omega (arith, high 0 f (omega arith) (omega arith)))
+find-run start (f ∷ es) count zero x y h e low high =
+    in-run (f.end - start) f.kind (types_from f.end es) y (omega (arith, high 0 f (omega arith) (omega arith)))
 find-run start (f ∷ es) count (suc i) x y h e low high =
     let le : f.end ≤ x = low 0 f (omega arith) in
     past-run (f.end - start) f.kind (types_from f.end es) y (x - f.end) (omega (arith, h.0))
     ∙ find-run f.end es count i x (x - f.end) h.1 (omega arith) (λ j d lt. low (suc j) d (omega arith)) (λ j d ge lt. high (suc j) d (omega arith) (omega arith))
 
 -- what a search by halves finds
-pub find-local : (es : List RunEnd) (count i x : ℕ) → Reaches 0 es count → IsPartitionPoint (λ (y : RunEnd). leb y.end x ≡ true) (λ (y : RunEnd). leb y.end x ≡ false) es i
+pub find-local : (es : List RunEnd) (count i x : ℕ) → Reaches 0 es count
+    → IsPartitionPoint (λ (y : RunEnd). leb y.end x ≡ true) (λ (y : RunEnd). leb y.end x ≡ false) es i
     → slice_get (types_from 0 es) x ≡ option_map (λ (e : RunEnd). e.kind) (slice_get es i)
 find-local es count i x h p = find-run 0 es count i x x h (omega arith) (λ j d lt. omega (arith, leb-true (get_or es j d).end x (p.0 j d (omega arith) lt))) (λ j d ge lt. omega (arith, leb-false (get_or es j d).end x (p.1 j d ge lt)))
 

@@ -28,13 +28,15 @@ values-same (Some k) (Some j) e = let same : k ≡ j = cc in ap Some same
 label-is : (ks : List (Option ValType)) (l : ℕ) → slice_get (labels_of ks) l ≡ option_map values_of (slice_get (reverse ks) l)
 label-is ks l = slice_get-map values_of (reverse ks) l
 
-pub label-known : (ks : List (Option ValType)) (l : ℕ) (x : Option ValType) → slice_get (reverse ks) l ≡ Some x → slice_get (labels_of ks) l ≡ Some (values_of x)
+pub label-known : (ks : List (Option ValType)) (l : ℕ) (x : Option ValType) → slice_get (reverse ks) l ≡ Some x
+    → slice_get (labels_of ks) l ≡ Some (values_of x)
 label-known ks l x e = label-is ks l ∙ ap (option_map values_of) e
 
 pub label-none : (ks : List (Option ValType)) (l : ℕ) → slice_get (reverse ks) l ≡ None → slice_get (labels_of ks) l ≡ None
 label-none ks l e = label-is ks l ∙ ap (option_map values_of) e
 
-pub label-carries : (ks : List (Option ValType)) (l : ℕ) (x : Option ValType) → slice_get (labels_of ks) l ≡ Some (values_of x) → slice_get (reverse ks) l ≡ Some x
+pub label-carries : (ks : List (Option ValType)) (l : ℕ) (x : Option ValType) → slice_get (labels_of ks) l ≡ Some (values_of x)
+    → slice_get (reverse ks) l ≡ Some x
 label-carries ks l x e = go (slice_get (reverse ks) l) refl (sym (label-is ks l) ∙ e)
   where
     go : (o : Option (Option ValType)) → slice_get (reverse ks) l ≡ o → option_map values_of o ≡ Some (values_of x) → slice_get (reverse ks) l ≡ Some x
@@ -46,10 +48,12 @@ all-as P Q f ks h = λ k d lt. f (get_or ks k d) (h k d lt)
 
 -- ---- one instruction at a time
 
-pub at-instr : (c : Context) (ls : List (List ValType)) (a b : Stack) (ok : Bool) (i j : Instr) → i ≡ j → Follows a (Passes c ls j) ok b → Follows a (Passes c ls i) ok b
+pub at-instr : (c : Context) (ls : List (List ValType)) (a b : Stack) (ok : Bool) (i j : Instr) → i ≡ j → Follows a (Passes c ls j) ok b
+    → Follows a (Passes c ls i) ok b
 at-instr c ls a b ok i j e h = subst (λ (z : Instr). Follows a (Passes c ls z) ok b) (sym e) h
 
-pub br-follows : (c : Context) (ls : List (List ValType)) (l : ℕ) (t : List ValType) (a b : Stack) (ok : Bool) → slice_get ls l ≡ Some t → Follows a (Leaves t) ok b → Follows a (Passes c ls (Br l)) ok b
+pub br-follows : (c : Context) (ls : List (List ValType)) (l : ℕ) (t : List ValType) (a b : Stack) (ok : Bool) → slice_get ls l ≡ Some t
+    → Follows a (Leaves t) ok b → Follows a (Passes c ls (Br l)) ok b
 br-follows c ls l t a b ok is h = follows-as a b (Leaves t) (Passes c ls (Br l)) ok
     (λ s s' r. (t, r.0, is, r.1))
     (λ s s' r. let same : r.0 ≡ t = cc in (r.1, r.3 ∙ ap (λ z. z ++ r.1) same))
@@ -58,7 +62,8 @@ br-follows c ls l t a b ok is h = follows-as a b (Leaves t) (Passes c ls (Br l))
 pub br-none : (c : Context) (ls : List (List ValType)) (l : ℕ) (a : Stack) → slice_get ls l ≡ None → Fails a (Passes c ls (Br l))
 br-none c ls l a is = λ s s' st r. let e = r.2 in cc
 
-pub br_if-follows : (c : Context) (ls : List (List ValType)) (l : ℕ) (t : List ValType) (a b : Stack) (ok : Bool) → slice_get ls l ≡ Some t → Follows a (Turns (I32 ∷ t) t) ok b → Follows a (Passes c ls (BrIf l)) ok b
+pub br_if-follows : (c : Context) (ls : List (List ValType)) (l : ℕ) (t : List ValType) (a b : Stack) (ok : Bool) → slice_get ls l ≡ Some t
+    → Follows a (Turns (I32 ∷ t) t) ok b → Follows a (Passes c ls (BrIf l)) ok b
 br_if-follows c ls l t a b ok is h = follows-as a b (Turns (I32 ∷ t) t) (Passes c ls (BrIf l)) ok
     (λ s s' r. (t, r.0, is, r.1, r.2))
     (λ s s' r. let same : r.0 ≡ t = cc in (r.1, r.3 ∙ ap (λ z. I32 ∷ z ++ r.1) same, r.4 ∙ ap (λ z. z ++ r.1) same))
@@ -67,18 +72,22 @@ br_if-follows c ls l t a b ok is h = follows-as a b (Turns (I32 ∷ t) t) (Passe
 pub br_if-none : (c : Context) (ls : List (List ValType)) (l : ℕ) (a : Stack) → slice_get ls l ≡ None → Fails a (Passes c ls (BrIf l))
 br_if-none c ls l a is = λ s s' st r. let e = r.2 in cc
 
-pub br_table-follows : (c : Context) (ls : List (List ValType)) (some : List ℕ) (l : ℕ) (t : List ValType) (a b : Stack) (ok : Bool) → slice_get ls l ≡ Some t → All (λ k. slice_get ls k ≡ Some t) some
+pub br_table-follows : (c : Context) (ls : List (List ValType)) (some : List ℕ) (l : ℕ) (t : List ValType) (a b : Stack) (ok : Bool)
+    → slice_get ls l ≡ Some t → All (λ k. slice_get ls k ≡ Some t) some
     → Follows a (Leaves (I32 ∷ t)) ok b → Follows a (Passes c ls (BrTable some l)) ok b
 br_table-follows c ls some l t a b ok is all h = follows-as a b (Leaves (I32 ∷ t)) (Passes c ls (BrTable some l)) ok
     (λ s s' r. (t, r.0, is, all, r.1))
     (λ s s' r. let same : r.0 ≡ t = cc in (r.1, r.4 ∙ ap (λ z. I32 ∷ z ++ r.1) same))
     h
 
-pub br_table-none : (c : Context) (ls : List (List ValType)) (some : List ℕ) (l : ℕ) (a : Stack) → slice_get ls l ≡ None → Fails a (Passes c ls (BrTable some l))
+pub br_table-none : (c : Context) (ls : List (List ValType)) (some : List ℕ) (l : ℕ) (a : Stack) → slice_get ls l ≡ None
+    → Fails a (Passes c ls (BrTable some l))
 br_table-none c ls some l a is = λ s s' st r. let e = r.2 in cc
 
-pub br_table-differ : (c : Context) (ls : List (List ValType)) (some : List ℕ) (l : ℕ) (t : List ValType) (a : Stack) → slice_get ls l ≡ Some t → (All (λ k. slice_get ls k ≡ Some t) some → ⊥) → Fails a (Passes c ls (BrTable some l))
-br_table-differ c ls some l t a is differ = λ s s' st r. let same : r.0 ≡ t = cc in differ (subst (λ (z : List ValType). All (λ k. slice_get ls k ≡ Some z) some) same r.3)
+pub br_table-differ : (c : Context) (ls : List (List ValType)) (some : List ℕ) (l : ℕ) (t : List ValType) (a : Stack) → slice_get ls l ≡ Some t
+    → (All (λ k. slice_get ls k ≡ Some t) some → ⊥) → Fails a (Passes c ls (BrTable some l))
+br_table-differ c ls some l t a is differ =
+    λ s s' st r. let same : r.0 ≡ t = cc in differ (subst (λ (z : List ValType). All (λ k. slice_get ls k ≡ Some z) some) same r.3)
 
 -- what takes some and leaves some
 abbrev pub ByTypes : Context → Instr → List ValType → List ValType → Type 0
@@ -96,7 +105,8 @@ select-follows c ls a b ok h = follows-as a b (Selects I32) (Passes c ls Select)
     (λ s s' r. (r.3.0, r.2, r.4 ∙ ap (λ z. z ++ r.2) r.3.1.0, r.5 ∙ ap (λ z. z ++ r.2) r.3.1.1))
     h
 
-types-follow : (c : Context) (i : Instr) (f : Signature) (a b : Stack) (ok : Bool) → HasSignature c i (Some f) → Follows a (Turns (reverse f.takes.items) (values_of f.leaves)) ok b → Follows a (ByTypes c i) ok b
+types-follow : (c : Context) (i : Instr) (f : Signature) (a b : Stack) (ok : Bool) → HasSignature c i (Some f)
+    → Follows a (Turns (reverse f.takes.items) (values_of f.leaves)) ok b → Follows a (ByTypes c i) ok b
 types-follow c i f a b ok is h = follows-as a b (Turns (reverse f.takes.items) (values_of f.leaves)) (ByTypes c i) ok
     (λ s s' r. (reverse f.takes.items, values_of f.leaves, r.0, (is (reverse f.takes.items) (values_of f.leaves)).1 (refl, refl), r.1, r.2))
     (λ s s' r. let e = (is r.0 r.1).0 r.3 in (r.2, r.4 ∙ ap (λ z. z ++ r.2) e.0, r.5 ∙ ap (λ z. z ++ r.2) e.1))
@@ -126,7 +136,8 @@ other-follows c ls i o f takes a b (Ok ok) p is some same h =
     follows-as a b (ByTypes c i) (Passes c ls i) ok (λ s s' q. (types-pass c ls i p s s').1 q) (λ s s' q. (types-pass c ls i p s s').0 q)
     (types-follow c i f a b ok (subst (HasSignature c i) some is) turns)
 
-pub other-fails : (c : Context) (ls : List (List ValType)) (i : Instr) (o : Option Signature) (a : Stack) → GoesByTypes i → HasSignature c i o → o ≡ None → Fails a (Passes c ls i)
+pub other-fails : (c : Context) (ls : List (List ValType)) (i : Instr) (o : Option Signature) (a : Stack) → GoesByTypes i → HasSignature c i o
+    → o ≡ None → Fails a (Passes c ls i)
 other-fails c ls i o a p is none = λ s s' st q. let r = (types-pass c ls i p s s').0 q in subst (HasSignature c i) none is r.0 r.1 r.3
 
 -- what was answered for the instruction that is there

@@ -27,7 +27,8 @@ pub fails-first : (a : Stack) (R Q : Relation) → Fails a R → Fails a (After 
 fails-first a R Q e = λ s s' st r. e s r.0 st r.1
 
 -- the same relation in other words
-pub follows-as : (a b : Stack) (R Q : Relation) (ok : Bool) → ((s s' : List ValType) → R s s' → Q s s') → ((s s' : List ValType) → Q s s' → R s s') → Follows a R ok b → Follows a Q ok b
+pub follows-as : (a b : Stack) (R Q : Relation) (ok : Bool) → ((s s' : List ValType) → R s s' → Q s s') → ((s s' : List ValType) → Q s s' → R s s')
+    → Follows a R ok b → Follows a Q ok b
 follows-as a b R Q false f g e = λ s s' st r. e s s' st (g s s' r)
 follows-as a b R Q true f g e = record { onto = λ s s' st r. e.onto s s' st (g s s' r); from = λ s' st. let x = e.from s' st in (x.0, x.1, f x.0 s' x.2) }
 
@@ -37,10 +38,12 @@ top-push : (xs : List (Option ValType)) (x : Option ValType) → reverse (xs ++ 
 top-push xs x = reverse-append xs (x ∷ [])
 
 along : (x : Option ValType) (b a : Stack) → IsOnto x b a → (s : List ValType) → Stands a s → Matches (x ∷ reverse b.kinds.items) b.any s
-along x b a o s h = subst (λ z. Matches (x ∷ reverse b.kinds.items) z s) o.any (subst (λ z. Matches z a.any s) (ap reverse o.items ∙ top-push b.kinds.items x) h)
+along x b a o s h =
+    subst (λ z. Matches (x ∷ reverse b.kinds.items) z s) o.any (subst (λ z. Matches z a.any s) (ap reverse o.items ∙ top-push b.kinds.items x) h)
 
 back : (x : Option ValType) (b a : Stack) → IsOnto x b a → (s : List ValType) → Matches (x ∷ reverse b.kinds.items) b.any s → Stands a s
-back x b a o s h = subst (λ z. Matches z a.any s) (sym (ap reverse o.items ∙ top-push b.kinds.items x)) (subst (λ z. Matches (x ∷ reverse b.kinds.items) z s) (sym o.any) h)
+back x b a o s h =
+    subst (λ z. Matches z a.any s) (sym (ap reverse o.items ∙ top-push b.kinds.items x)) (subst (λ z. Matches (x ∷ reverse b.kinds.items) z s) (sym o.any) h)
 
 pub stands-put : (x : Option ValType) (b a : Stack) → IsOnto x b a → (k : ValType) (s : List ValType) → IsKind x k → Stands b s → Stands a (k ∷ s)
 stands-put x b a o k s is h = back x b a o (k ∷ s) (is, h)
@@ -105,7 +108,8 @@ pub takes-nothing : (b a : Stack) → IsBare a false → TakesTop a None b
 takes-nothing b a p = λ k s h. let e : [] ≡ k ∷ s = sym (bare-empty a p (k ∷ s) h) in cc
 
 -- a type, and then others
-pub pops-more : (k : ValType) (t : List ValType) (a b c : Stack) (ok : Bool) → Exact a (Pops (k ∷ [])) b → Follows b (Pops t) ok c → Follows a (Pops (k ∷ t)) ok c
+pub pops-more : (k : ValType) (t : List ValType) (a b c : Stack) (ok : Bool) → Exact a (Pops (k ∷ [])) b → Follows b (Pops t) ok c
+    → Follows a (Pops (k ∷ t)) ok c
 pops-more k t a b c ok e f = follows-as a c (After (Pops (k ∷ [])) (Pops t)) (Pops (k ∷ t)) ok
     (λ s s' r. r.1 ∙ ap (λ z. k ∷ z) r.2)
     (λ s s' r. (t ++ s', r, refl))
@@ -191,12 +195,14 @@ select-no-second a b c e f = λ s s' st r. f r.0 (r.0 ∷ r.1) (e.onto s (r.0 �
 pub select-no-first : (y : Option ValType) (a b c d : Stack) → Exact a (Pops (I32 ∷ [])) b → TakesTop b (Some y) c → TakesTop c None d → Fails a (Selects I32)
 select-no-first y a b c d p f g = λ s s' st r. g r.0 r.1 ((f r.0 (r.0 ∷ r.1)).0 (p.onto s (r.0 ∷ r.0 ∷ r.1) st r.2)).1
 
-pub select-two : (x y : Option ValType) (a b c d : Stack) → Exact a (Pops (I32 ∷ [])) b → TakesTop b (Some y) c → TakesTop c (Some x) d → Agrees x y None → Fails a (Selects I32)
+pub select-two : (x y : Option ValType) (a b c d : Stack) → Exact a (Pops (I32 ∷ [])) b → TakesTop b (Some y) c → TakesTop c (Some x) d
+    → Agrees x y None → Fails a (Selects I32)
 select-two x y a b c d p f g two = λ s s' st r.
     let second = (f r.0 (r.0 ∷ r.1)).0 (p.onto s (r.0 ∷ r.0 ∷ r.1) st r.2) in
     two r.0 ((g r.0 r.1).0 second.1).0 second.0
 
-pub select-one : (x y z : Option ValType) (a b c d e : Stack) → Exact a (Pops (I32 ∷ [])) b → TakesTop b (Some y) c → TakesTop c (Some x) d → Agrees x y (Some z) → IsOnto z d e → Exact a (Selects I32) e
+pub select-one : (x y z : Option ValType) (a b c d e : Stack) → Exact a (Pops (I32 ∷ [])) b → TakesTop b (Some y) c → TakesTop c (Some x) d
+    → Agrees x y (Some z) → IsOnto z d e → Exact a (Selects I32) e
 select-one x y z a b c d e p f g one o = record {
   onto = λ s s' st r.
       let second = (f r.0 (r.0 ∷ r.1)).0 (p.onto s (r.0 ∷ r.0 ∷ r.1) st r.2) in

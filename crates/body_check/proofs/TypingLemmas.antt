@@ -58,7 +58,8 @@ look-form {K} look k f g c d t l is p q = (
   λ h. (k, is, (h.0 ∙ sym p, h.1 ∙ sym q)),
 )
 
-pub look-none : {K : Type 0} (look : Option K) (f g : K → List ValType) (t l : List ValType) → look ≡ None → ((j : K) × (look ≡ Some j) × Takes (f j) (g j) t l) → ⊥
+pub look-none : {K : Type 0} (look : Option K) (f g : K → List ValType) (t l : List ValType) → look ≡ None
+    → ((j : K) × (look ≡ Some j) × Takes (f j) (g j) t l) → ⊥
 look-none look f g t l is h = let e = h.1 in cc
 
 -- ---- instructions
@@ -66,13 +67,15 @@ look-none look f g t l is h = let e = h.1 in cc
 pub nop-has : (c : Context) (s : Signature) → s.takes.items ≡ [] → s.leaves ≡ None → HasSignature c v.Nop (Some s)
 nop-has c s p q = λ t l. plain-form [] [] (reverse s.takes.items) (values_of s.leaves) t l (ap reverse (sym p)) (ap values_of (sym q))
 
-pub call-has : (c : Context) (f : ℕ) (F : FuncType) (s : Signature) → type_of_func c.inside f ≡ Some F → s.takes.items ≡ F.params → values_of s.leaves ≡ reverse F.results → HasSignature c (v.Call f) (Some s)
+pub call-has : (c : Context) (f : ℕ) (F : FuncType) (s : Signature) → type_of_func c.inside f ≡ Some F → s.takes.items ≡ F.params
+    → values_of s.leaves ≡ reverse F.results → HasSignature c (v.Call f) (Some s)
 call-has c f F s is p q = λ t l. look-form (type_of_func c.inside f) F (λ (j : FuncType). reverse j.params) (λ (j : FuncType). reverse j.results) (reverse s.takes.items) (values_of s.leaves) t l is (ap reverse (sym p)) (sym q)
 
 pub call-has-none : (c : Context) (f : ℕ) → type_of_func c.inside f ≡ None → HasSignature c (v.Call f) None
 call-has-none c f is = λ t l h. look-none (type_of_func c.inside f) (λ (j : FuncType). reverse j.params) (λ (j : FuncType). reverse j.results) t l is h
 
-pub indirect-has : (c : Context) (k : ℕ) (F : FuncType) (s : Signature) → tables_of c.inside ≢ [] → slice_get c.inside.types k ≡ Some F → s.takes.items ≡ F.params ++ I32 ∷ [] → values_of s.leaves ≡ reverse F.results → HasSignature c (v.CallIndirect k) (Some s)
+pub indirect-has : (c : Context) (k : ℕ) (F : FuncType) (s : Signature) → tables_of c.inside ≢ [] → slice_get c.inside.types k ≡ Some F
+    → s.takes.items ≡ F.params ++ I32 ∷ [] → values_of s.leaves ≡ reverse F.results → HasSignature c (v.CallIndirect k) (Some s)
 indirect-has c k F s table is p q = λ t l.
     let top : reverse s.takes.items ≡ I32 ∷ reverse F.params = ap reverse p ∙ reverse-append F.params (I32 ∷ []) in (
       λ h. let same : h.0 ≡ F = cc in (h.3.0 ∙ ap (λ (j : FuncType). I32 ∷ reverse j.params) same ∙ sym top, h.3.1 ∙ ap (λ (j : FuncType). reverse j.results) same ∙ sym q),
@@ -85,22 +88,26 @@ indirect-no-table c k no_table = λ t l h. no_table h.1
 pub indirect-no-type : (c : Context) (k : ℕ) → slice_get c.inside.types k ≡ None → HasSignature c (v.CallIndirect k) None
 indirect-no-type c k is = λ t l h. let e = h.2 in cc
 
-pub get-has : (c : Context) (x : ℕ) (o : Option ValType) (r : Option Signature) → o ≡ slice_get c.locals x → UsesKind o false true r → HasSignature c (v.LocalGet x) r
+pub get-has : (c : Context) (x : ℕ) (o : Option ValType) (r : Option Signature) → o ≡ slice_get c.locals x → UsesKind o false true r
+    → HasSignature c (v.LocalGet x) r
 get-has c x None r e u = subst (HasSignature c (v.LocalGet x)) (sym u) (λ t l h. look-none (slice_get c.locals x) (λ k. []) (λ k. k ∷ []) t l (sym e) h)
 get-has c x (Some k) None e u = absurd u
 get-has c x (Some k) (Some s) e u = λ t l. look-form (slice_get c.locals x) k (λ k. []) (λ k. k ∷ []) (reverse s.takes.items) (values_of s.leaves) t l (sym e) (ap reverse (sym u.0)) (ap values_of (sym u.1))
 
-pub set-has : (c : Context) (x : ℕ) (o : Option ValType) (r : Option Signature) → o ≡ slice_get c.locals x → UsesKind o true false r → HasSignature c (v.LocalSet x) r
+pub set-has : (c : Context) (x : ℕ) (o : Option ValType) (r : Option Signature) → o ≡ slice_get c.locals x → UsesKind o true false r
+    → HasSignature c (v.LocalSet x) r
 set-has c x None r e u = subst (HasSignature c (v.LocalSet x)) (sym u) (λ t l h. look-none (slice_get c.locals x) (λ k. k ∷ []) (λ k. []) t l (sym e) h)
 set-has c x (Some k) None e u = absurd u
 set-has c x (Some k) (Some s) e u = λ t l. look-form (slice_get c.locals x) k (λ k. k ∷ []) (λ k. []) (reverse s.takes.items) (values_of s.leaves) t l (sym e) (ap reverse (sym u.0)) (ap values_of (sym u.1))
 
-pub tee-has : (c : Context) (x : ℕ) (o : Option ValType) (r : Option Signature) → o ≡ slice_get c.locals x → UsesKind o true true r → HasSignature c (v.LocalTee x) r
+pub tee-has : (c : Context) (x : ℕ) (o : Option ValType) (r : Option Signature) → o ≡ slice_get c.locals x → UsesKind o true true r
+    → HasSignature c (v.LocalTee x) r
 tee-has c x None r e u = subst (HasSignature c (v.LocalTee x)) (sym u) (λ t l h. look-none (slice_get c.locals x) (λ k. k ∷ []) (λ k. k ∷ []) t l (sym e) h)
 tee-has c x (Some k) None e u = absurd u
 tee-has c x (Some k) (Some s) e u = λ t l. look-form (slice_get c.locals x) k (λ k. k ∷ []) (λ k. k ∷ []) (reverse s.takes.items) (values_of s.leaves) t l (sym e) (ap reverse (sym u.0)) (ap values_of (sym u.1))
 
-pub global-get-has : (c : Context) (x : ℕ) (o : Option ValType) (r : Option Signature) → o ≡ option_map global_value (slice_get (globals_of c.inside) x) → UsesKind o false true r → HasSignature c (v.GlobalGet x) r
+pub global-get-has : (c : Context) (x : ℕ) (o : Option ValType) (r : Option Signature)
+    → o ≡ option_map global_value (slice_get (globals_of c.inside) x) → UsesKind o false true r → HasSignature c (v.GlobalGet x) r
 global-get-has c x o r e u = go (slice_get (globals_of c.inside) x) refl o r e u
   where
     go : (g : Option GlobalType) → slice_get (globals_of c.inside) x ≡ g → (o : Option ValType) (r : Option Signature) → o ≡ option_map global_value g → UsesKind o false true r → HasSignature c (v.GlobalGet x) r
@@ -111,7 +118,8 @@ global-get-has c x o r e u = go (slice_get (globals_of c.inside) x) refl o r e u
     go (Some g) is (Some k) (Some s) e u = λ t l. let same : k ≡ g.kind = cc in
         look-form (slice_get (globals_of c.inside) x) g (λ (g : GlobalType). []) (λ (g : GlobalType). g.kind ∷ []) (reverse s.takes.items) (values_of s.leaves) t l is (ap reverse (sym u.0)) (ap (λ z. z ∷ []) (sym same) ∙ ap values_of (sym u.1))
 
-pub global-set-has : (c : Context) (x : ℕ) (o : Option ValType) (r : Option Signature) → o ≡ option_and_then mutable_value (slice_get (globals_of c.inside) x) → UsesKind o true false r → HasSignature c (v.GlobalSet x) r
+pub global-set-has : (c : Context) (x : ℕ) (o : Option ValType) (r : Option Signature)
+    → o ≡ option_and_then mutable_value (slice_get (globals_of c.inside) x) → UsesKind o true false r → HasSignature c (v.GlobalSet x) r
 global-set-has c x o r e u = go (slice_get (globals_of c.inside) x) refl o r e u
   where
     fixed : (g : GlobalType) → slice_get (globals_of c.inside) x ≡ Some g → (q : Bool) → g.mutable ≡ q → (o : Option ValType) (r : Option Signature) → o ≡ (if q then Some g.kind else None) → UsesKind o true false r → HasSignature c (v.GlobalSet x) r
@@ -144,6 +152,7 @@ pub num-has : (c : Context) (op : NumOp) (s : Signature) → TypesNum op (revers
 num-has c op s h = λ t l. num-one op (reverse s.takes.items) (values_of s.leaves) t l h
 
 -- what was worked out for the instruction that is there
-pub ok-has : (c : Context) (i j : Instr) (o : Option ValType) (takes leaves : Bool) (r : Result (Option Signature) NoMemory) → i ≡ j → IfOk r (λ x. UsesKind o takes leaves x) → ((x : Option Signature) → UsesKind o takes leaves x → HasSignature c j x) → IfOk r (λ x. HasSignature c i x)
+pub ok-has : (c : Context) (i j : Instr) (o : Option ValType) (takes leaves : Bool) (r : Result (Option Signature) NoMemory) → i ≡ j
+    → IfOk r (λ x. UsesKind o takes leaves x) → ((x : Option Signature) → UsesKind o takes leaves x → HasSignature c j x) → IfOk r (λ x. HasSignature c i x)
 ok-has c i j o takes leaves (Err e) is h f = tt
 ok-has c i j o takes leaves (Ok x) is h f = subst (λ (z : Instr). HasSignature c z x) (sym is) (f x h)

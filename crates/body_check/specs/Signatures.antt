@@ -19,4 +19,5 @@ HasSignature c i (Some s) = (t l : List ValType) → Types c i t l ↔ ((t ≡ r
 -- a value of a type is taken, or left, or both
 abbrev pub UsesKind : Option ValType → Bool → Bool → Option Signature → Type 0
 UsesKind None takes leaves r = r ≡ None
-UsesKind (Some k) takes leaves r = IsSomeAnd r (λ (s : Signature). (s.takes.items ≡ (if takes then k ∷ [] else [])) × (s.leaves ≡ (if leaves then Some k else None)))
+UsesKind (Some k) takes leaves r =
+    IsSomeAnd r (λ (s : Signature). (s.takes.items ≡ (if takes then k ∷ [] else [])) × (s.leaves ≡ (if leaves then Some k else None)))

@@ -7,8 +7,8 @@ ghost use Rattle.body_check.specs.Labels.{labels_of};
 ghost use Rattle.body_check.specs.Signatures.{context_of};
 ghost use Rattle.body_check.specs.Stacks.{Follows};
 
-use crate::plain::check_plain;
 use crate::place::Place;
+use crate::plain::check_plain;
 use crate::stack::Stack;
 use std::alloc::Global;
 use wasm_types::{Instr, NoMemory, ValType};

@@ -3,9 +3,9 @@
 
 mod body;
 mod check;
-mod plain;
 mod locals;
 mod place;
+mod plain;
 mod spaces;
 mod stack;
 mod typing;

@@ -9,7 +9,8 @@ use Rattle.wasm_types.proofs.StandingLemmas.{next}
 use Rattle.wasm_types.proofs.CodeUnique.{first, one_code}
 use Rattle.code_decode.specs.Reading.{SpellsWithin}
 
-pub expr_stands : (room : ℕ) (bytes : List ℕ) (at end : ℕ) (xs : List Instr) → Stands (SpellsWithin room) bytes at end (code_of xs) → end < length bytes → get_or bytes end 0 ≡ 0x0B → Stands SpellsInstrs bytes at (end + 1) xs
+pub expr_stands : (room : ℕ) (bytes : List ℕ) (at end : ℕ) (xs : List Instr) → Stands (SpellsWithin room) bytes at end (code_of xs)
+    → end < length bytes → get_or bytes end 0 ≡ 0x0B → Stands SpellsInstrs bytes at (end + 1) xs
 expr_stands room bytes at end xs s within ender = record {
   text = s.text ++ 0x0B ∷ [];
   spelled = record { inner = s.text; parts = refl; contents = s.spelled.0 };
@@ -17,7 +18,8 @@ expr_stands room bytes at end xs s within ender = record {
   within = omega arith;
 }
 
-pub no_expr : (room : ℕ) (bytes : List ℕ) (at end : ℕ) (xs : List Instr) → Stands (SpellsWithin room) bytes at end (code_of xs) → end < length bytes → IsEnder (get_or bytes end 0) → get_or bytes end 0 ≢ 0x0B → NoneStands SpellsInstrs bytes at
+pub no_expr : (room : ℕ) (bytes : List ℕ) (at end : ℕ) (xs : List Instr) → Stands (SpellsWithin room) bytes at end (code_of xs) → end < length bytes
+    → IsEnder (get_or bytes end 0) → get_or bytes end 0 ≢ 0x0B → NoneStands SpellsInstrs bytes at
 no_expr room bytes at end xs s within ender other text rest ys here p =
     let both : s.text ++ get_or bytes end 0 ∷ drop (end + 1) bytes ≡ p.inner ++ 0x0B ∷ rest = ap (λ (t : List ℕ). s.text ++ t) (sym (next bytes end within)) ∙ sym s.here ∙ here ∙ ap (λ (t : List ℕ). t ++ rest) p.parts ∙ append_assoc p.inner (0x0B ∷ []) rest in
     let r = one_code (code_of xs) (code_of ys) s.text p.inner _ _ (get_or bytes end 0) 0x0B s.spelled.0 p.contents ender (inl refl) both in

@@ -82,7 +82,8 @@ kind_nothing : (t : Immediates) → kind_of t ≡ Some kind.Nothing → t ≡ no
 kind_nothing nothing e = refl
 kind_nothing _ e = absurd cc
 
-pub not_bare : (bytes : List ℕ) (at : ℕ) → at < length bytes → Follows (get_or bytes at 0) (Some kind.Nothing) → ((i : Instr) → IsMade i (get_or bytes at 0) nothing → ⊥)
+pub not_bare : (bytes : List ℕ) (at : ℕ) → at < length bytes → Follows (get_or bytes at 0) (Some kind.Nothing)
+    → ((i : Instr) → IsMade i (get_or bytes at 0) nothing → ⊥)
     → NoneStands SpellsPlain bytes at
 not_bare bytes at lt is none text rest i here s =
     let o = opened bytes at text rest i lt here s in
@@ -121,7 +122,8 @@ labels_kind = record {
   once = λ a b x y v w p q e. ap labels_tag (once_both (Counted SpellsU32) SpellsU32 (once_counted SpellsU32 once_u32) once_u32 a b x y v w p q e).1;
 }
 
-from_signature : (t : Immediates) (text : List ℕ) → kind_of t ≡ Some kind.Signature → SpellsImmediates text t → (v : ℕ) × (t ≡ signature v) × SpellsSignature text v
+from_signature : (t : Immediates) (text : List ℕ) → kind_of t ≡ Some kind.Signature → SpellsImmediates text t
+    → (v : ℕ) × (t ≡ signature v) × SpellsSignature text v
 from_signature (signature n) text e p = (n, refl, p)
 from_signature _ text e p = absurd cc
 
@@ -135,7 +137,8 @@ signature_kind = record {
 abbrev pub address_tag : MemArg → Immediates
 address_tag m = address m.align m.offset
 
-from_address : (t : Immediates) (text : List ℕ) → kind_of t ≡ Some kind.Address → SpellsImmediates text t → (v : MemArg) × (t ≡ address_tag v) × SpellsAddress text v
+from_address : (t : Immediates) (text : List ℕ) → kind_of t ≡ Some kind.Address → SpellsImmediates text t
+    → (v : MemArg) × (t ≡ address_tag v) × SpellsAddress text v
 from_address (address a o) text e p = (record { align = a; offset = o }, refl, p)
 from_address _ text e p = absurd cc
 
@@ -208,7 +211,8 @@ from_memory : (t : Immediates) (text : List ℕ) → kind_of t ≡ Some kind.Mem
 from_memory memory text e p = (refl, p)
 from_memory _ text e p = absurd cc
 
-zero_here : (bytes : List ℕ) (at end : ℕ) → (end ≡ at + 1) × (at < length bytes) × (get_or bytes at 0 ≡ 0) → (drop at bytes ≡ 0 ∷ drop end bytes) × (end ≤ length bytes)
+zero_here : (bytes : List ℕ) (at end : ℕ) → (end ≡ at + 1) × (at < length bytes) × (get_or bytes at 0 ≡ 0)
+    → (drop at bytes ≡ 0 ∷ drop end bytes) × (end ≤ length bytes)
 zero_here bytes at end z =
     (next bytes at z.1 ∙ ap (λ (b : ℕ). b ∷ drop (at + 1) bytes) z.2 ∙ ap (λ (n : ℕ). 0 ∷ drop n bytes) (sym z.0), omega (arith, z.0, z.1))
 
@@ -218,12 +222,14 @@ memory_stands bytes at end i lt is z =
     let here = zero_here bytes (at + 1) end z in
     behind bytes at end i (0 ∷ []) lt is.0 (subst (λ (t : Immediates). SpellsImmediates (0 ∷ []) t) (sym is.1) refl) here.0 here.1
 
-pub not_memory : (bytes : List ℕ) (at : ℕ) → at < length bytes → Follows (get_or bytes at 0) (Some kind.Memory) → NoZero bytes (at + 1) → NoneStands SpellsPlain bytes at
+pub not_memory : (bytes : List ℕ) (at : ℕ) → at < length bytes → Follows (get_or bytes at 0) (Some kind.Memory) → NoZero bytes (at + 1)
+    → NoneStands SpellsPlain bytes at
 not_memory bytes at lt is none text rest i here s =
     let o = opened bytes at text rest i lt here s in
     none rest (o.1 ∙ ap (λ (t : List ℕ). t ++ rest) (from_memory (immediates i) s.rest (is i s.rest o.0 s.spelled) s.spelled).1)
 
-pub not_of_memory : (bytes : List ℕ) (at : ℕ) → at < length bytes → Follows (get_or bytes at 0) (Some kind.Memory) → ((i : Instr) → IsMade i (get_or bytes at 0) memory → ⊥)
+pub not_of_memory : (bytes : List ℕ) (at : ℕ) → at < length bytes → Follows (get_or bytes at 0) (Some kind.Memory)
+    → ((i : Instr) → IsMade i (get_or bytes at 0) memory → ⊥)
     → NoneStands SpellsPlain bytes at
 not_of_memory bytes at lt is none text rest i here s =
     let o = opened bytes at text rest i lt here s in
@@ -269,7 +275,8 @@ no_bulk_number bytes at none text rest n here s =
     none s.front (s.back ++ rest) n (here ∙ ap (λ (t : List ℕ). t ++ rest) s.parts ∙ append_assoc s.front s.back rest) s.first
 
 -- what stands behind the number is no byte for each memory
-no_bulk : (bytes : List ℕ) (at mid n : ℕ) → Stands SpellsU32 bytes at mid n → ((rest : List ℕ) → drop mid bytes ≡ memories_of n ++ rest → ⊥) → NoneStands SpellsBulk bytes at
+no_bulk : (bytes : List ℕ) (at mid n : ℕ) → Stands SpellsU32 bytes at mid n → ((rest : List ℕ) → drop mid bytes ≡ memories_of n ++ rest → ⊥)
+    → NoneStands SpellsBulk bytes at
 no_bulk bytes at mid n p none text rest m here s =
     let r = behind_first SpellsU32 bytes at mid n m text s.front s.back rest once_u32 p here s.parts s.first in
     none rest (r.1 ∙ ap (λ (t : List ℕ). t ++ rest) (s.second ∙ ap memories_of (sym r.0)))
@@ -287,7 +294,8 @@ no_bulk_second bytes at mid next n two p y none =
 
 -- ---- what the kinds are made of
 
-pub not_zero_table : (bytes : List ℕ) (at mid end type table : ℕ) → Stands SpellsU32 bytes at mid type → Stands SpellsU32 bytes mid end table → table ≢ 0 → NoneStands SpellsSignature bytes at
+pub not_zero_table : (bytes : List ℕ) (at mid end type table : ℕ) → Stands SpellsU32 bytes at mid type → Stands SpellsU32 bytes mid end table
+    → table ≢ 0 → NoneStands SpellsSignature bytes at
 not_zero_table bytes at mid end type table p q ne text rest v here s =
     let r = behind_first SpellsU32 bytes at mid type v text s.front s.back rest once_u32 p here s.parts s.first in
     ne (once_u32 q.text s.back (drop end bytes) rest table 0 q.spelled s.second (sym q.here ∙ r.1)).1
@@ -300,7 +308,8 @@ pub no_offset : (bytes : List ℕ) (at mid align : ℕ) → Stands SpellsU32 byt
 no_offset bytes at mid align p none text rest m here s =
     none s.back rest m.offset (behind_first SpellsU32 bytes at mid align m.align text s.front s.back rest once_u32 p here s.parts s.first).1 s.second
 
-pub next_four : (bytes : List ℕ) (at : ℕ) → at + 4 ≤ length bytes → drop at bytes ≡ get_or bytes at 0 ∷ get_or bytes (at + 1) 0 ∷ get_or bytes (at + 2) 0 ∷ get_or bytes (at + 3) 0 ∷ drop (at + 4) bytes
+pub next_four : (bytes : List ℕ) (at : ℕ) → at + 4 ≤ length bytes
+    → drop at bytes ≡ get_or bytes at 0 ∷ get_or bytes (at + 1) 0 ∷ get_or bytes (at + 2) 0 ∷ get_or bytes (at + 3) 0 ∷ drop (at + 4) bytes
 next_four bytes at le =
     let a : drop at bytes ≡ get_or bytes at 0 ∷ drop (at + 1) bytes = next bytes at (omega arith) in
     let b : drop (at + 1) bytes ≡ get_or bytes (at + 1) 0 ∷ drop (at + 2) bytes = next bytes (at + 1) (omega arith) ∙ ap (λ (k : ℕ). get_or bytes (at + 1) 0 ∷ drop k bytes) (omega arith) in
@@ -308,7 +317,8 @@ next_four bytes at le =
     let d : drop (at + 3) bytes ≡ get_or bytes (at + 3) 0 ∷ drop (at + 4) bytes = next bytes (at + 3) (omega arith) ∙ ap (λ (k : ℕ). get_or bytes (at + 3) 0 ∷ drop k bytes) (omega arith) in
     cc
 
-pub raw_stands : (bytes : List ℕ) (at n : ℕ) → at + 4 ≤ length bytes → ((k : ℕ) → get_or bytes k 0 < 256) → n ≡ get_or bytes at 0 + 256 * get_or bytes (at + 1) 0 + 65536 * get_or bytes (at + 2) 0 + 16777216 * get_or bytes (at + 3) 0
+pub raw_stands : (bytes : List ℕ) (at n : ℕ) → at + 4 ≤ length bytes → ((k : ℕ) → get_or bytes k 0 < 256)
+    → n ≡ get_or bytes at 0 + 256 * get_or bytes (at + 1) 0 + 65536 * get_or bytes (at + 2) 0 + 16777216 * get_or bytes (at + 3) 0
     → Stands SpellsRaw32 bytes at (at + 4) n
 raw_stands bytes at n le small is = record {
   text = get_or bytes at 0 ∷ get_or bytes (at + 1) 0 ∷ get_or bytes (at + 2) 0 ∷ get_or bytes (at + 3) 0 ∷ [];
@@ -321,7 +331,8 @@ pub no_raw : (bytes : List ℕ) (at : ℕ) → length bytes < at + 4 → NoneSta
 no_raw bytes at lt (a ∷ b ∷ c ∷ d ∷ []) rest n here s = omega (arith, ap length here, length-drop at bytes)
 no_raw bytes at lt _ rest n here s = s
 
-pub raw_64_stands : (bytes : List ℕ) (at mid end low high n : ℕ) → n ≡ low + 4294967296 * high → Stands SpellsRaw32 bytes at mid low → Stands SpellsRaw32 bytes mid end high → Stands SpellsRaw64 bytes at end n
+pub raw_64_stands : (bytes : List ℕ) (at mid end low high n : ℕ) → n ≡ low + 4294967296 * high → Stands SpellsRaw32 bytes at mid low
+    → Stands SpellsRaw32 bytes mid end high → Stands SpellsRaw64 bytes at end n
 raw_64_stands bytes at mid end low high n is p q = record {
   text = p.text ++ q.text;
   spelled = (low, high, record { front = p.text; back = q.text; parts = refl; first = p.spelled; second = q.spelled }, is);
@@ -335,13 +346,15 @@ pub stops_behind : (bytes : List ℕ) (at : ℕ) (s : Stop) → at < length byte
 stops_behind bytes at stop.No lt is h = not_read (Both (Counted SpellsU32) SpellsU32) labels_tag kind.Labels bytes at labels_kind lt is h
 stops_behind bytes at stop.Memory lt is h = tt
 
-pub stop_first : {A B : Type 0} (P : List ℕ → A → Type 0) (Q : List ℕ → B → Type 0) (bytes : List ℕ) (start : ℕ) (s : Stop) → ReadsOr P bytes start (Err s) → ReadsOr (Both P Q) bytes start (Err s)
+pub stop_first : {A B : Type 0} (P : List ℕ → A → Type 0) (Q : List ℕ → B → Type 0) (bytes : List ℕ) (start : ℕ) (s : Stop)
+    → ReadsOr P bytes start (Err s) → ReadsOr (Both P Q) bytes start (Err s)
 stop_first P Q bytes start stop.No h = none_both_first P Q bytes start h
 stop_first P Q bytes start stop.Memory h = tt
 
 -- ---- places after what stands
 
-pub skips_both : {A B : Type 0} (P : List ℕ → A → Type 0) (Q : List ℕ → B → Type 0) (bytes : List ℕ) (start mid : ℕ) (v : A) (end : Option ℕ) → IsOnce P → Stands P bytes start mid v → Skips Q bytes mid end → Skips (Both P Q) bytes start end
+pub skips_both : {A B : Type 0} (P : List ℕ → A → Type 0) (Q : List ℕ → B → Type 0) (bytes : List ℕ) (start mid : ℕ) (v : A) (end : Option ℕ)
+    → IsOnce P → Stands P bytes start mid v → Skips Q bytes mid end → Skips (Both P Q) bytes start end
 skips_both P Q bytes start mid v (Some end) once p q = ((v, q.0), both_stands P Q bytes start mid end v q.0 p q.1)
 skips_both P Q bytes start mid v None once p q = none_both_second P Q bytes start mid v once p q
 

@@ -36,7 +36,8 @@ spelled_is_plain _ text p = refl
 -- a spelled sequence is that of its list
 pub code_of-list_of : (c : Code) (text : List ℕ) → SpellsCode c text → code_of (list_of c) ≡ c
 code_of-list_of done text p = refl
-code_of-list_of (one i rest) text p = onto-one i (code_of (list_of rest)) (spelled_is_plain i p.front p.first) ∙ ap (one i) (code_of-list_of rest p.back p.second)
+code_of-list_of (one i rest) text p =
+    onto-one i (code_of (list_of rest)) (spelled_is_plain i p.front p.first) ∙ ap (one i) (code_of-list_of rest p.back p.second)
 code_of-list_of (block k inner rest) text p = onto-block k (list_of inner) (code_of (list_of rest)) ∙ (let a = code_of-list_of inner p.first.inner p.first.contents in let b = code_of-list_of rest p.back p.second in cc (a, b))
 code_of-list_of (repeat k inner rest) text p = onto-loop k (list_of inner) (code_of (list_of rest)) ∙ (let a = code_of-list_of inner p.first.inner p.first.contents in let b = code_of-list_of rest p.back p.second in cc (a, b))
 code_of-list_of (branch k one_arm other rest) text p =
@@ -50,56 +51,70 @@ code_of-list_of (branch k one_arm other rest) text p =
 single : (Head : List ℕ → Type 0) (text : List ℕ) → Head text → Then Head (SpellsCode done) text
 single Head text h = record { front = text; back = []; parts = sym (append-nil text); first = h; second = refl }
 
-pub plain_instr : (room : ℕ) (bytes : List ℕ) (at end : ℕ) (i : Instr) → Stands SpellsPlain bytes at end i → Stands (SpellsWithin room) bytes at end (onto i done)
+pub plain_instr : (room : ℕ) (bytes : List ℕ) (at end : ℕ) (i : Instr) → Stands SpellsPlain bytes at end i
+    → Stands (SpellsWithin room) bytes at end (onto i done)
 plain_instr room bytes at end i s = rw (onto-one i done (spelled_is_plain i s.text s.spelled)) (record { text = s.text; spelled = (single (λ t. SpellsPlain t i) s.text s.spelled, omega arith); here = s.here; within = s.within })
 
-pub block_instr : (room : ℕ) (bytes : List ℕ) (at end : ℕ) (k : Option ValType) (xs : List Instr) → Stands (EnclosedText 0x02 room) bytes at end (k, code_of xs) → Stands (SpellsWithin room) bytes at end (onto (Block k xs) done)
+pub block_instr : (room : ℕ) (bytes : List ℕ) (at end : ℕ) (k : Option ValType) (xs : List Instr)
+    → Stands (EnclosedText 0x02 room) bytes at end (k, code_of xs) → Stands (SpellsWithin room) bytes at end (onto (Block k xs) done)
 block_instr room bytes at end k xs s = subst (λ (c : Code). Stands (SpellsWithin room) bytes at end c) (sym (onto-block k xs done)) (record { text = s.text; spelled = (single (Encloses 0x02 k (SpellsCode (code_of xs))) s.text s.spelled.0, omega (arith, s.spelled.1)); here = s.here; within = s.within })
 
-pub loop_instr : (room : ℕ) (bytes : List ℕ) (at end : ℕ) (k : Option ValType) (xs : List Instr) → Stands (EnclosedText 0x03 room) bytes at end (k, code_of xs) → Stands (SpellsWithin room) bytes at end (onto (Loop k xs) done)
+pub loop_instr : (room : ℕ) (bytes : List ℕ) (at end : ℕ) (k : Option ValType) (xs : List Instr)
+    → Stands (EnclosedText 0x03 room) bytes at end (k, code_of xs) → Stands (SpellsWithin room) bytes at end (onto (Loop k xs) done)
 loop_instr room bytes at end k xs s = subst (λ (c : Code). Stands (SpellsWithin room) bytes at end c) (sym (onto-loop k xs done)) (record { text = s.text; spelled = (single (Encloses 0x03 k (SpellsCode (code_of xs))) s.text s.spelled.0, omega (arith, s.spelled.1)); here = s.here; within = s.within })
 
 -- the byte at the place is the first of the first instruction
-at_head : (bytes text rest : List ℕ) (at : ℕ) (c : Code) (p : Then (SpellsHead c) (SpellsCode (tail_of c)) text) → at < length bytes → drop at bytes ≡ text ++ rest → drop at bytes ≡ p.front ++ (p.back ++ rest)
+at_head : (bytes text rest : List ℕ) (at : ℕ) (c : Code) (p : Then (SpellsHead c) (SpellsCode (tail_of c)) text) → at < length bytes
+    → drop at bytes ≡ text ++ rest → drop at bytes ≡ p.front ++ (p.back ++ rest)
 at_head bytes text rest at c p lt here = here ∙ ap (λ (t : List ℕ). t ++ rest) p.parts ∙ append_assoc p.front p.back rest
 
-pub no_block : (room : ℕ) (bytes : List ℕ) (at : ℕ) → at < length bytes → get_or bytes at 0 ≡ 2 → NoneStands (EnclosedText 0x02 room) bytes at → NoInstr room bytes at
+pub no_block : (room : ℕ) (bytes : List ℕ) (at : ℕ) → at < length bytes → get_or bytes at 0 ≡ 2 → NoneStands (EnclosedText 0x02 room) bytes at
+    → NoInstr room bytes at
 no_block room bytes at lt is none text rest done here p = refl
 no_block room bytes at lt is none text rest (one i r) here p = let h = at_head bytes text rest at (one i r) p.0 lt here in absurd (grind (arith, is, first_at bytes p.0.front (p.0.back ++ rest) at lt h, plain_leads i p.0.front (p.0.back ++ rest) p.0.first))
-no_block room bytes at lt is none text rest (block k m r) here p = absurd (none p.0.front (p.0.back ++ rest) (k, m) (at_head bytes text rest at (block k m r) p.0 lt here) (p.0.first, omega (arith, p.1)))
+no_block room bytes at lt is none text rest (block k m r) here p =
+    absurd (none p.0.front (p.0.back ++ rest) (k, m) (at_head bytes text rest at (block k m r) p.0 lt here) (p.0.first, omega (arith, p.1)))
 no_block room bytes at lt is none text rest (repeat k m r) here p = let h = at_head bytes text rest at (repeat k m r) p.0 lt here in absurd (omega (arith, is, first_at bytes p.0.front (p.0.back ++ rest) at lt h, head_leads (repeat k m r) p.0.front (p.0.back ++ rest) p.0.first))
 no_block room bytes at lt is none text rest (branch k m o r) here p = let h = at_head bytes text rest at (branch k m o r) p.0 lt here in absurd (omega (arith, is, first_at bytes p.0.front (p.0.back ++ rest) at lt h, head_leads (branch k m o r) p.0.front (p.0.back ++ rest) p.0.first))
 
-pub no_loop : (room : ℕ) (bytes : List ℕ) (at : ℕ) → at < length bytes → get_or bytes at 0 ≡ 3 → NoneStands (EnclosedText 0x03 room) bytes at → NoInstr room bytes at
+pub no_loop : (room : ℕ) (bytes : List ℕ) (at : ℕ) → at < length bytes → get_or bytes at 0 ≡ 3 → NoneStands (EnclosedText 0x03 room) bytes at
+    → NoInstr room bytes at
 no_loop room bytes at lt is none text rest done here p = refl
 no_loop room bytes at lt is none text rest (one i r) here p = let h = at_head bytes text rest at (one i r) p.0 lt here in absurd (grind (arith, is, first_at bytes p.0.front (p.0.back ++ rest) at lt h, plain_leads i p.0.front (p.0.back ++ rest) p.0.first))
-no_loop room bytes at lt is none text rest (repeat k m r) here p = absurd (none p.0.front (p.0.back ++ rest) (k, m) (at_head bytes text rest at (repeat k m r) p.0 lt here) (p.0.first, omega (arith, p.1)))
+no_loop room bytes at lt is none text rest (repeat k m r) here p =
+    absurd (none p.0.front (p.0.back ++ rest) (k, m) (at_head bytes text rest at (repeat k m r) p.0 lt here) (p.0.first, omega (arith, p.1)))
 no_loop room bytes at lt is none text rest (block k m r) here p = let h = at_head bytes text rest at (block k m r) p.0 lt here in absurd (omega (arith, is, first_at bytes p.0.front (p.0.back ++ rest) at lt h, head_leads (block k m r) p.0.front (p.0.back ++ rest) p.0.first))
 no_loop room bytes at lt is none text rest (branch k m o r) here p = let h = at_head bytes text rest at (branch k m o r) p.0 lt here in absurd (omega (arith, is, first_at bytes p.0.front (p.0.back ++ rest) at lt h, head_leads (branch k m o r) p.0.front (p.0.back ++ rest) p.0.first))
 
 -- the same for what a reader answers
-pub block_stops : (room : ℕ) (bytes : List ℕ) (at : ℕ) (e : Stop) → at < length bytes → get_or bytes at 0 ≡ 2 → ReadsEnclosed (get_or bytes at 0) room bytes at (Err e) → ReadsInstr room bytes at (Err e)
+pub block_stops : (room : ℕ) (bytes : List ℕ) (at : ℕ) (e : Stop) → at < length bytes → get_or bytes at 0 ≡ 2
+    → ReadsEnclosed (get_or bytes at 0) room bytes at (Err e) → ReadsInstr room bytes at (Err e)
 block_stops room bytes at stop.No lt is h = no_block room bytes at lt is (subst (λ (op : ℕ). NoneStands (EnclosedText op room) bytes at) is h)
 block_stops room bytes at stop.Memory lt is h = tt
 
-pub loop_stops : (room : ℕ) (bytes : List ℕ) (at : ℕ) (e : Stop) → at < length bytes → get_or bytes at 0 ≡ 3 → ReadsEnclosed (get_or bytes at 0) room bytes at (Err e) → ReadsInstr room bytes at (Err e)
+pub loop_stops : (room : ℕ) (bytes : List ℕ) (at : ℕ) (e : Stop) → at < length bytes → get_or bytes at 0 ≡ 3
+    → ReadsEnclosed (get_or bytes at 0) room bytes at (Err e) → ReadsInstr room bytes at (Err e)
 loop_stops room bytes at stop.No lt is h = no_loop room bytes at lt is (subst (λ (op : ℕ). NoneStands (EnclosedText op room) bytes at) is h)
 loop_stops room bytes at stop.Memory lt is h = tt
 
-pub no_plain : (room : ℕ) (bytes : List ℕ) (at : ℕ) → at < length bytes → get_or bytes at 0 ≢ 2 → get_or bytes at 0 ≢ 3 → get_or bytes at 0 ≢ 4 → NoneStands SpellsPlain bytes at → NoInstr room bytes at
+pub no_plain : (room : ℕ) (bytes : List ℕ) (at : ℕ) → at < length bytes → get_or bytes at 0 ≢ 2 → get_or bytes at 0 ≢ 3 → get_or bytes at 0 ≢ 4
+    → NoneStands SpellsPlain bytes at → NoInstr room bytes at
 no_plain room bytes at lt n2 n3 n4 none text rest done here p = refl
-no_plain room bytes at lt n2 n3 n4 none text rest (one i r) here p = absurd (none p.0.front (p.0.back ++ rest) i (at_head bytes text rest at (one i r) p.0 lt here) p.0.first)
+no_plain room bytes at lt n2 n3 n4 none text rest (one i r) here p =
+    absurd (none p.0.front (p.0.back ++ rest) i (at_head bytes text rest at (one i r) p.0 lt here) p.0.first)
 no_plain room bytes at lt n2 n3 n4 none text rest (block k m r) here p = let h = at_head bytes text rest at (block k m r) p.0 lt here in absurd (n2 (omega (arith, first_at bytes p.0.front (p.0.back ++ rest) at lt h, head_leads (block k m r) p.0.front (p.0.back ++ rest) p.0.first)))
 no_plain room bytes at lt n2 n3 n4 none text rest (repeat k m r) here p = let h = at_head bytes text rest at (repeat k m r) p.0 lt here in absurd (n3 (omega (arith, first_at bytes p.0.front (p.0.back ++ rest) at lt h, head_leads (repeat k m r) p.0.front (p.0.back ++ rest) p.0.first)))
 no_plain room bytes at lt n2 n3 n4 none text rest (branch k m o r) here p = let h = at_head bytes text rest at (branch k m o r) p.0 lt here in absurd (n4 (omega (arith, first_at bytes p.0.front (p.0.back ++ rest) at lt h, head_leads (branch k m o r) p.0.front (p.0.back ++ rest) p.0.first)))
 
-pub plain_stops : (room : ℕ) (bytes : List ℕ) (at : ℕ) (e : Stop) → at < length bytes → get_or bytes at 0 ≢ 2 → get_or bytes at 0 ≢ 3 → get_or bytes at 0 ≢ 4 → ReadsOr SpellsPlain bytes at (Err e) → ReadsInstr room bytes at (Err e)
+pub plain_stops : (room : ℕ) (bytes : List ℕ) (at : ℕ) (e : Stop) → at < length bytes → get_or bytes at 0 ≢ 2 → get_or bytes at 0 ≢ 3
+    → get_or bytes at 0 ≢ 4 → ReadsOr SpellsPlain bytes at (Err e) → ReadsInstr room bytes at (Err e)
 plain_stops room bytes at stop.No lt n2 n3 n4 h = no_plain room bytes at lt n2 n3 n4 h
 plain_stops room bytes at stop.Memory lt n2 n3 n4 h = tt
 
 -- ---- what is enclosed
 
-pub enclosed_stands : (room : ℕ) (bytes : List ℕ) (at end : ℕ) (k : Option ValType) (c : Code) → 0 < room → at + 1 < length bytes → get_or bytes (at + 1) 0 ≡ kind_byte k → Stands (SpellsWithin (room - 1)) bytes (at + 2) end c
+pub enclosed_stands : (room : ℕ) (bytes : List ℕ) (at end : ℕ) (k : Option ValType) (c : Code) → 0 < room → at + 1 < length bytes
+    → get_or bytes (at + 1) 0 ≡ kind_byte k → Stands (SpellsWithin (room - 1)) bytes (at + 2) end c
     → end < length bytes → get_or bytes end 0 ≡ 0x0B → Stands (EnclosedText (get_or bytes at 0) room) bytes at (end + 1) (k, c)
 enclosed_stands room bytes at end k c some lt kind s within ender = record {
   text = get_or bytes at 0 ∷ kind_byte k ∷ s.text ++ 0x0B ∷ [];
@@ -161,9 +176,11 @@ joined i (x ∷ xs) a b p q =
 
 nest_joined : (room : ℕ) (i : Instr) (xs : List Instr) → nest (code_of xs) ≤ room → nest (onto i done) ≤ room → nest (code_of (xs ++ i ∷ [])) ≤ room
 nest_joined room i [] p q = q
-nest_joined room i (x ∷ xs) p q = omega (arith, nest_onto x (code_of xs), nest_onto x (code_of (xs ++ i ∷ [])), nest_joined room i xs (omega (arith, nest_onto x (code_of xs))) q)
+nest_joined room i (x ∷ xs) p q =
+    omega (arith, nest_onto x (code_of xs), nest_onto x (code_of (xs ++ i ∷ [])), nest_joined room i xs (omega (arith, nest_onto x (code_of xs))) q)
 
-pub stands_more : (room : ℕ) (bytes : List ℕ) (at place end : ℕ) (xs : List Instr) (i : Instr) → Stands (SpellsWithin room) bytes at place (code_of xs) → Stands (SpellsWithin room) bytes place end (onto i done)
+pub stands_more : (room : ℕ) (bytes : List ℕ) (at place end : ℕ) (xs : List Instr) (i : Instr)
+    → Stands (SpellsWithin room) bytes at place (code_of xs) → Stands (SpellsWithin room) bytes place end (onto i done)
     → Stands (SpellsWithin room) bytes at end (code_of (xs ++ i ∷ []))
 stands_more room bytes at place end xs i s t = record {
   text = s.text ++ t.text;
@@ -173,7 +190,8 @@ stands_more room bytes at place end xs i s t = record {
 }
 
 -- no sequence goes on where none stands behind the instruction
-none_behind : (room : ℕ) (bytes : List ℕ) (at end : ℕ) (i : Instr) (text rest : List ℕ) (c : Code) (ender : ℕ) → (c ≡ done → ⊥) → at < length bytes → Stands (SpellsWithin room) bytes at end (onto i done)
+none_behind : (room : ℕ) (bytes : List ℕ) (at end : ℕ) (i : Instr) (text rest : List ℕ) (c : Code) (ender : ℕ) → (c ≡ done → ⊥) → at < length bytes
+    → Stands (SpellsWithin room) bytes at end (onto i done)
     → NoCode room bytes end → drop at bytes ≡ text ++ ender ∷ rest → IsEnder ender → SpellsWithin room text c → ⊥
 none_behind room bytes at end i text rest c ender some lt s none here ee p =
     let parts = split c text some p.0 in
@@ -183,15 +201,20 @@ none_behind room bytes at end i text rest c ender some lt s none here ee p =
     let behind : parts.back ++ ender ∷ rest ≡ drop end bytes = after parts.front mine.front _ _ same e ∙ ap (λ (t : List ℕ). t ++ drop end bytes) mine.second in
     none parts.back rest (tail_of c) ender (sym behind) ee (parts.second, omega (arith, nest-tail_of c, p.1))
 
-pub none_back : (room : ℕ) (bytes : List ℕ) (at end : ℕ) (i : Instr) → at < length bytes → get_or bytes at 0 ≢ 0x0B → get_or bytes at 0 ≢ 0x05 → Stands (SpellsWithin room) bytes at end (onto i done)
+pub none_back : (room : ℕ) (bytes : List ℕ) (at end : ℕ) (i : Instr) → at < length bytes → get_or bytes at 0 ≢ 0x0B → get_or bytes at 0 ≢ 0x05
+    → Stands (SpellsWithin room) bytes at end (onto i done)
     → NoCode room bytes end → NoCode room bytes at
 none_back room bytes at end i lt nb n5 s none text rest done ender here ee p =
     let e = first_at bytes text (ender ∷ rest) at lt here ∙ ap (λ (t : List ℕ). first (t ++ ender ∷ rest)) p.0 in
     elim ee [ inl b ↦ nb (e ∙ b) | inr b ↦ n5 (e ∙ b) ]
-none_back room bytes at end i lt nb n5 s none text rest (one j r) ender here ee p = none_behind room bytes at end i text rest (one j r) ender (λ e. cc) lt s none here ee p
-none_back room bytes at end i lt nb n5 s none text rest (block k m r) ender here ee p = none_behind room bytes at end i text rest (block k m r) ender (λ e. cc) lt s none here ee p
-none_back room bytes at end i lt nb n5 s none text rest (repeat k m r) ender here ee p = none_behind room bytes at end i text rest (repeat k m r) ender (λ e. cc) lt s none here ee p
-none_back room bytes at end i lt nb n5 s none text rest (branch k m o r) ender here ee p = none_behind room bytes at end i text rest (branch k m o r) ender (λ e. cc) lt s none here ee p
+none_back room bytes at end i lt nb n5 s none text rest (one j r) ender here ee p =
+    none_behind room bytes at end i text rest (one j r) ender (λ e. cc) lt s none here ee p
+none_back room bytes at end i lt nb n5 s none text rest (block k m r) ender here ee p =
+    none_behind room bytes at end i text rest (block k m r) ender (λ e. cc) lt s none here ee p
+none_back room bytes at end i lt nb n5 s none text rest (repeat k m r) ender here ee p =
+    none_behind room bytes at end i text rest (repeat k m r) ender (λ e. cc) lt s none here ee p
+none_back room bytes at end i lt nb n5 s none text rest (branch k m o r) ender here ee p =
+    none_behind room bytes at end i text rest (branch k m o r) ender (λ e. cc) lt s none here ee p
 
 pub none_past_end : (room : ℕ) (bytes : List ℕ) (at : ℕ) → length bytes ≤ at → NoCode room bytes at
 none_past_end room bytes at past text rest c ender here ee p = absurd (omega (arith, ap length here, length-drop at bytes, length-append text (ender ∷ rest)))
@@ -208,19 +231,22 @@ no_if_from room bytes at lt is none text rest done here p = refl
 no_if_from room bytes at lt is none text rest (one i r) here p = let h = at_head bytes text rest at (one i r) p.0 lt here in absurd (grind (arith, is, first_at bytes p.0.front (p.0.back ++ rest) at lt h, plain_leads i p.0.front (p.0.back ++ rest) p.0.first))
 no_if_from room bytes at lt is none text rest (block k m r) here p = let h = at_head bytes text rest at (block k m r) p.0 lt here in absurd (omega (arith, is, first_at bytes p.0.front (p.0.back ++ rest) at lt h, head_leads (block k m r) p.0.front (p.0.back ++ rest) p.0.first))
 no_if_from room bytes at lt is none text rest (repeat k m r) here p = let h = at_head bytes text rest at (repeat k m r) p.0 lt here in absurd (omega (arith, is, first_at bytes p.0.front (p.0.back ++ rest) at lt h, head_leads (repeat k m r) p.0.front (p.0.back ++ rest) p.0.first))
-no_if_from room bytes at lt is none text rest (branch k m o r) here p = absurd (none k m o p.0.front (p.0.back ++ rest) (at_head bytes text rest at (branch k m o r) p.0 lt here) p.0.first (omega (arith, p.1)))
+no_if_from room bytes at lt is none text rest (branch k m o r) here p =
+    absurd (none k m o p.0.front (p.0.back ++ rest) (at_head bytes text rest at (branch k m o r) p.0 lt here) p.0.first (omega (arith, p.1)))
 
 -- what stands behind the block type
 Arms : (k : Option ValType) (m o : Code) (behind rest arm : List ℕ) → Type 0
 Arms k m o behind rest arm = ((behind ≡ arm ++ 0x0B ∷ rest) × SpellsCode o []) ⊎ ((no : List ℕ) × SpellsCode o no × (behind ≡ arm ++ 0x05 ∷ (no ++ 0x0B ∷ rest)))
 
-tail_is : (k : ℕ) (u w rest front bytes : List ℕ) (b0 b1 : ℕ) (behind : List ℕ) (g : ℕ) → front ≡ 0x04 ∷ k ∷ u ++ g ∷ w → b0 ∷ b1 ∷ behind ≡ front ++ rest → (b1 ≡ k) × (behind ≡ u ++ g ∷ (w ++ rest))
+tail_is : (k : ℕ) (u w rest front bytes : List ℕ) (b0 b1 : ℕ) (behind : List ℕ) (g : ℕ) → front ≡ 0x04 ∷ k ∷ u ++ g ∷ w
+    → b0 ∷ b1 ∷ behind ≡ front ++ rest → (b1 ≡ k) × (behind ≡ u ++ g ∷ (w ++ rest))
 tail_is k u w rest front bytes b0 b1 behind g p e =
     let h : b0 ∷ b1 ∷ behind ≡ 0x04 ∷ k ∷ (u ++ g ∷ w ++ rest) = e ∙ ap (λ (t : List ℕ). t ++ rest) p in
     let inside : behind ≡ u ++ g ∷ w ++ rest = cc in
     (cc, inside ∙ append_assoc u (g ∷ w) rest)
 
-arms_at : (k : Option ValType) (m o : Code) (bytes front rest : List ℕ) (at : ℕ) → at + 1 < length bytes → drop at bytes ≡ front ++ rest → (arms : HasArms k (SpellsCode m) (SpellsCode o) front)
+arms_at : (k : Option ValType) (m o : Code) (bytes front rest : List ℕ) (at : ℕ) → at + 1 < length bytes → drop at bytes ≡ front ++ rest
+    → (arms : HasArms k (SpellsCode m) (SpellsCode o) front)
     → (get_or bytes (at + 1) 0 ≡ kind_byte k) × Arms k m o (drop (at + 2) bytes) rest arms.yes
 unfolding Arms
 arms_at k m o bytes front rest at lt here arms =
@@ -230,19 +256,23 @@ arms_at k m o bytes front rest at lt here arms =
       | inr r ↦ let t = tail_is (kind_byte k) arms.yes (r.0 ++ 0x0B ∷ []) rest front bytes _ _ _ 0x05 r.2 e in (t.0, inr (r.0, r.1, t.1 ∙ ap (λ (u : List ℕ). arms.yes ++ 0x05 ∷ u) (append_assoc r.0 (0x0B ∷ []) rest)))
     ]
 
-arms_long : (k : Option ValType) (m o : Code) (bytes front rest : List ℕ) (at : ℕ) → drop at bytes ≡ front ++ rest → HasArms k (SpellsCode m) (SpellsCode o) front → at + 1 < length bytes
+arms_long : (k : Option ValType) (m o : Code) (bytes front rest : List ℕ) (at : ℕ) → drop at bytes ≡ front ++ rest
+    → HasArms k (SpellsCode m) (SpellsCode o) front → at + 1 < length bytes
 arms_long k m o bytes front rest at here arms =
     elim arms.others [
       | inl l ↦ omega (arith, ap length here, ap length l.0, length-drop at bytes, length-append front rest)
       | inr r ↦ omega (arith, ap length here, ap length r.2, length-drop at bytes, length-append front rest)
     ]
 
-pub no_if_room : (room : ℕ) (bytes : List ℕ) (at : ℕ) → at < length bytes → get_or bytes at 0 ≡ 4 → ((room ≡ 0) ⊎ (length bytes ≤ at + 1)) → NoInstr room bytes at
+pub no_if_room : (room : ℕ) (bytes : List ℕ) (at : ℕ) → at < length bytes → get_or bytes at 0 ≡ 4 → ((room ≡ 0) ⊎ (length bytes ≤ at + 1))
+    → NoInstr room bytes at
 unfolding NoArms
 no_if_room room bytes at lt is (inl e) = no_if_from room bytes at lt is (λ k m o front rest here arms n. omega (arith, e, n))
-no_if_room room bytes at lt is (inr e) = no_if_from room bytes at lt is (λ k m o front rest here arms n. omega (arith, e, arms_long k m o bytes front rest at here arms))
+no_if_room room bytes at lt is (inr e) =
+    no_if_from room bytes at lt is (λ k m o front rest here arms n. omega (arith, e, arms_long k m o bytes front rest at here arms))
 
-pub no_if_kind : (room : ℕ) (bytes : List ℕ) (at : ℕ) → at < length bytes → get_or bytes at 0 ≡ 4 → ((k : Option ValType) → get_or bytes (at + 1) 0 ≢ kind_byte k) → NoInstr room bytes at
+pub no_if_kind : (room : ℕ) (bytes : List ℕ) (at : ℕ) → at < length bytes → get_or bytes at 0 ≡ 4
+    → ((k : Option ValType) → get_or bytes (at + 1) 0 ≢ kind_byte k) → NoInstr room bytes at
 unfolding NoArms
 no_if_kind room bytes at lt is none = no_if_from room bytes at lt is (λ k m o front rest here arms n. none k (arms_at k m o bytes front rest at (arms_long k m o bytes front rest at here arms) here arms).0)
 
@@ -254,12 +284,14 @@ no_if_first room bytes at lt is none = no_if_from room bytes at lt is (λ k m o 
       | inr r ↦ none arms.yes (r.0 ++ 0x0B ∷ rest) m 0x05 r.2 (inr refl) (arms.first, omega (arith, n))
     ])
 
-pub if_stops_first : (room : ℕ) (bytes : List ℕ) (at : ℕ) (e : Stop) → at < length bytes → get_or bytes at 0 ≡ 4 → ReadsCode (room - 1) bytes (at + 2) (Err e) → ReadsInstr room bytes at (Err e)
+pub if_stops_first : (room : ℕ) (bytes : List ℕ) (at : ℕ) (e : Stop) → at < length bytes → get_or bytes at 0 ≡ 4
+    → ReadsCode (room - 1) bytes (at + 2) (Err e) → ReadsInstr room bytes at (Err e)
 if_stops_first room bytes at stop.No lt is h = no_if_first room bytes at lt is h
 if_stops_first room bytes at stop.Memory lt is h = tt
 
 -- the first arm is the one that was read, and the end behind it too
-first_arm : (room : ℕ) (bytes : List ℕ) (at middle : ℕ) (c m : Code) (arm rest : List ℕ) (g : ℕ) → Stands (SpellsWithin room) bytes at middle c → middle < length bytes → IsEnder (get_or bytes middle 0) → IsEnder g
+first_arm : (room : ℕ) (bytes : List ℕ) (at middle : ℕ) (c m : Code) (arm rest : List ℕ) (g : ℕ) → Stands (SpellsWithin room) bytes at middle c
+    → middle < length bytes → IsEnder (get_or bytes middle 0) → IsEnder g
     → SpellsCode m arm → drop at bytes ≡ arm ++ g ∷ rest → (get_or bytes middle 0 ≡ g) × (drop (middle + 1) bytes ≡ rest)
 first_arm room bytes at middle c m arm rest g s within ender eg p e =
     let both : s.text ++ get_or bytes middle 0 ∷ drop (middle + 1) bytes ≡ arm ++ g ∷ rest = ap (λ (t : List ℕ). s.text ++ t) (sym (next bytes middle within)) ∙ sym s.here ∙ e in
@@ -267,7 +299,8 @@ first_arm room bytes at middle c m arm rest g s within ender eg p e =
     let behind = after s.text arm (get_or bytes middle 0 ∷ drop (middle + 1) bytes) (g ∷ rest) r.1 both in
     (cc, cc)
 
-no_if_second : (room : ℕ) (bytes : List ℕ) (at middle : ℕ) (c : Code) → at < length bytes → get_or bytes at 0 ≡ 4 → Stands (SpellsWithin (room - 1)) bytes (at + 2) middle c → middle < length bytes → IsEnder (get_or bytes middle 0) → get_or bytes middle 0 ≢ 0x0B
+no_if_second : (room : ℕ) (bytes : List ℕ) (at middle : ℕ) (c : Code) → at < length bytes → get_or bytes at 0 ≡ 4
+    → Stands (SpellsWithin (room - 1)) bytes (at + 2) middle c → middle < length bytes → IsEnder (get_or bytes middle 0) → get_or bytes middle 0 ≢ 0x0B
     → ((no rest : List ℕ) (o : Code) → drop (middle + 1) bytes ≡ no ++ 0x0B ∷ rest → SpellsCode o no → nest o ≤ room - 1 → ⊥) → NoInstr room bytes at
 unfolding NoArms Arms
 no_if_second room bytes at middle c lt is s within ender other none = no_if_from room bytes at lt is (λ k m o front rest here arms n.
@@ -276,18 +309,23 @@ no_if_second room bytes at middle c lt is s within ender other none = no_if_from
       | inr r ↦ none r.0 rest o (first_arm (room - 1) bytes (at + 2) middle c m arms.yes (r.0 ++ 0x0B ∷ rest) 0x05 s within ender (inr refl) arms.first r.2).1 r.1 (omega (arith, n))
     ])
 
-pub if_stops_second : (room : ℕ) (bytes : List ℕ) (at middle : ℕ) (c : Code) (e : Stop) → at < length bytes → get_or bytes at 0 ≡ 4 → Stands (SpellsWithin (room - 1)) bytes (at + 2) middle c → middle < length bytes → IsEnder (get_or bytes middle 0) → get_or bytes middle 0 ≢ 0x0B
+pub if_stops_second : (room : ℕ) (bytes : List ℕ) (at middle : ℕ) (c : Code) (e : Stop) → at < length bytes → get_or bytes at 0 ≡ 4
+    → Stands (SpellsWithin (room - 1)) bytes (at + 2) middle c → middle < length bytes → IsEnder (get_or bytes middle 0) → get_or bytes middle 0 ≢ 0x0B
     → ReadsCode (room - 1) bytes (middle + 1) (Err e) → ReadsInstr room bytes at (Err e)
 if_stops_second room bytes at middle c stop.Memory lt is s within ender other h = tt
-if_stops_second room bytes at middle c stop.No lt is s within ender other h = no_if_second room bytes at middle c lt is s within ender other (λ no rest o e p n. h no rest o 0x0B e (inl refl) (p, n))
+if_stops_second room bytes at middle c stop.No lt is s within ender other h =
+    no_if_second room bytes at middle c lt is s within ender other (λ no rest o e p n. h no rest o 0x0B e (inl refl) (p, n))
 
-pub no_if_end : (room : ℕ) (bytes : List ℕ) (at middle end : ℕ) (c d : Code) → at < length bytes → get_or bytes at 0 ≡ 4 → Stands (SpellsWithin (room - 1)) bytes (at + 2) middle c → middle < length bytes → IsEnder (get_or bytes middle 0) → get_or bytes middle 0 ≢ 0x0B
+pub no_if_end : (room : ℕ) (bytes : List ℕ) (at middle end : ℕ) (c d : Code) → at < length bytes → get_or bytes at 0 ≡ 4
+    → Stands (SpellsWithin (room - 1)) bytes (at + 2) middle c → middle < length bytes → IsEnder (get_or bytes middle 0) → get_or bytes middle 0 ≢ 0x0B
     → Stands (SpellsWithin (room - 1)) bytes (middle + 1) end d → end < length bytes → IsEnder (get_or bytes end 0) → get_or bytes end 0 ≢ 0x0B → NoInstr room bytes at
-no_if_end room bytes at middle end c d lt is s within ender other t within2 ender2 other2 = no_if_second room bytes at middle c lt is s within ender other (λ no rest o e p n.
+no_if_end room bytes at middle end c d lt is s within ender other t within2 ender2 other2 =
+    no_if_second room bytes at middle c lt is s within ender other (λ no rest o e p n.
     other2 (first_arm (room - 1) bytes (middle + 1) end d o no rest 0x0B t within2 ender2 (inl refl) p e).0)
 
 -- the whole
-pub if_stands : (room : ℕ) (bytes : List ℕ) (at middle : ℕ) (k : Option ValType) (xs : List Instr) → 0 < room → at + 1 < length bytes → get_or bytes at 0 ≡ 4 → get_or bytes (at + 1) 0 ≡ kind_byte k
+pub if_stands : (room : ℕ) (bytes : List ℕ) (at middle : ℕ) (k : Option ValType) (xs : List Instr) → 0 < room → at + 1 < length bytes
+    → get_or bytes at 0 ≡ 4 → get_or bytes (at + 1) 0 ≡ kind_byte k
     → Stands (SpellsWithin (room - 1)) bytes (at + 2) middle (code_of xs) → middle < length bytes → get_or bytes middle 0 ≡ 0x0B → Stands (SpellsWithin room) bytes at (middle + 1) (onto (If k xs []) done)
 if_stands room bytes at middle k xs some lt is kind s within ender = subst (λ (c : Code). Stands (SpellsWithin room) bytes at (middle + 1) c) (sym (onto-if k xs [] done)) (record {
   text = 0x04 ∷ kind_byte k ∷ s.text ++ 0x0B ∷ [];
@@ -297,7 +335,8 @@ if_stands room bytes at middle k xs some lt is kind s within ender = subst (λ (
   within = omega arith;
 })
 
-pub if_else_stands : (room : ℕ) (bytes : List ℕ) (at middle end : ℕ) (k : Option ValType) (xs ys : List Instr) → 0 < room → at + 1 < length bytes → get_or bytes at 0 ≡ 4 → get_or bytes (at + 1) 0 ≡ kind_byte k
+pub if_else_stands : (room : ℕ) (bytes : List ℕ) (at middle end : ℕ) (k : Option ValType) (xs ys : List Instr) → 0 < room → at + 1 < length bytes
+    → get_or bytes at 0 ≡ 4 → get_or bytes (at + 1) 0 ≡ kind_byte k
     → Stands (SpellsWithin (room - 1)) bytes (at + 2) middle (code_of xs) → middle < length bytes → get_or bytes middle 0 ≡ 0x05
     → Stands (SpellsWithin (room - 1)) bytes (middle + 1) end (code_of ys) → end < length bytes → get_or bytes end 0 ≡ 0x0B → Stands (SpellsWithin room) bytes at (end + 1) (onto (If k xs ys) done)
 if_else_stands room bytes at middle end k xs ys some lt is kind s within ender t within2 ender2 = subst (λ (c : Code). Stands (SpellsWithin room) bytes at (end + 1) c) (sym (onto-if k xs ys done)) (record {

@@ -34,7 +34,8 @@ abbrev pub NoCode : ℕ → List ℕ → ℕ → Type 0
 NoCode room bytes start = (text rest : List ℕ) (code : Code) (ender : ℕ) → drop start bytes ≡ text ++ ender ∷ rest → IsEnder ender → SpellsWithin room text code → ⊥
 
 abbrev pub ReadsCode : ℕ → List ℕ → ℕ → Result (List Instr × ℕ) Stop → Type 0
-ReadsCode room bytes start (Ok found) = Stands (SpellsWithin room) bytes start found.1 (code_of found.0) × (found.1 < length bytes) × IsEnder (slice_index bytes found.1)
+ReadsCode room bytes start (Ok found) =
+    Stands (SpellsWithin room) bytes start found.1 (code_of found.0) × (found.1 < length bytes) × IsEnder (slice_index bytes found.1)
 ReadsCode room bytes start (Err stop.No) = NoCode room bytes start
 ReadsCode room bytes start (Err stop.Memory) = Unit {0}
 

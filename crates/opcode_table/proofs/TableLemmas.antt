@@ -51,7 +51,8 @@ store-one v w e = grind (arith, nat_tests)
 pub num-one : (v w : NumOp) → num_opcode v ≡ num_opcode w → v ≡ w
 num-one v w e = let same : Num v ≡ Num w = sym (told (Num v) [] refl).0 ∙ ap bare_of e ∙ (told (Num w) [] refl).0 in cc
 
-pub read-back : {A : Type 0} (byte_of : A → ℕ) → ((v w : A) → byte_of v ≡ byte_of w → v ≡ w) → (v : A) (r : Option A) → ReadsBack byte_of (byte_of v) r → r ≡ Some v
+pub read-back : {A : Type 0} (byte_of : A → ℕ) → ((v w : A) → byte_of v ≡ byte_of w → v ≡ w) → (v : A) (r : Option A)
+    → ReadsBack byte_of (byte_of v) r → r ≡ Some v
 read-back byte_of one v None h = absurd (h v refl)
 read-back byte_of one v (Some w) h = ap Some (sym (one v w h))
 

@@ -8,8 +8,9 @@ mod table;
 mod types;
 
 pub use instructions::{
-    Following, MEMORY_COPY, MEMORY_FILL, bare, opcode_of, what_follows, with_address, with_bulk, with_labels, with_memory,
-    with_number, with_raw_32, with_raw_64, with_signature, with_signed_32, with_signed_64,
+    Following, MEMORY_COPY, MEMORY_FILL, bare, opcode_of, what_follows, with_address, with_bulk,
+    with_labels, with_memory, with_number, with_raw_32, with_raw_64, with_signature,
+    with_signed_32, with_signed_64,
 };
 pub use laws::law_read_back;
 pub use operations::{load_byte, load_op, num_byte, num_op, store_byte, store_op};

@@ -19,4 +19,5 @@ macro_rules! byte_of {
     };
 }
 
-pub(crate) use {byte_of, item_at};
+pub(crate) use byte_of;
+pub(crate) use item_at;

@@ -44,14 +44,17 @@ pub ruleset immediates_steps = (immediates-block, immediates-loop, immediates-if
 
 -- a piece before what is still to come
 pub piece : (all old new part rest more : List ℕ) → old ++ more ≡ all → more ≡ part ++ rest → new ≡ old ++ part → new ++ rest ≡ all
-piece all old new part rest more so_far is put = ap (λ (l : List ℕ). l ++ rest) put ∙ append_assoc old part rest ∙ ap (λ (l : List ℕ). old ++ l) (sym is) ∙ so_far
+piece all old new part rest more so_far is put =
+    ap (λ (l : List ℕ). l ++ rest) put ∙ append_assoc old part rest ∙ ap (λ (l : List ℕ). old ++ l) (sym is) ∙ so_far
 
 -- ---- sequences
 
 pub canon-onto : (i : Instr) (rest : Code) → canon_code (onto i rest) ≡ canon_code (onto i done) ++ canon_code rest
 unfolding onto code_of_row
-canon-onto (Block' k m inner) rest = ap (λ (t : List ℕ). t ++ canon_code rest) (sym (append-nil (0x02 ∷ kind_byte k ∷ canon_code (code_of_row inner) ++ 0x0B ∷ [])))
-canon-onto (Loop' k m inner) rest = ap (λ (t : List ℕ). t ++ canon_code rest) (sym (append-nil (0x03 ∷ kind_byte k ∷ canon_code (code_of_row inner) ++ 0x0B ∷ [])))
+canon-onto (Block' k m inner) rest =
+    ap (λ (t : List ℕ). t ++ canon_code rest) (sym (append-nil (0x02 ∷ kind_byte k ∷ canon_code (code_of_row inner) ++ 0x0B ∷ [])))
+canon-onto (Loop' k m inner) rest =
+    ap (λ (t : List ℕ). t ++ canon_code rest) (sym (append-nil (0x03 ∷ kind_byte k ∷ canon_code (code_of_row inner) ++ 0x0B ∷ [])))
 canon-onto (If' k m first n second) rest = ap (λ (t : List ℕ). t ++ canon_code rest) (sym (append-nil (0x04 ∷ kind_byte k ∷ canon_code (code_of_row first) ++ (else_part (canon_code (code_of_row second)) ++ 0x0B ∷ []))))
 canon-onto i rest = ap (λ (t : List ℕ). t ++ canon_code rest) (sym (append-nil (canon_plain i)))
 
@@ -83,13 +86,16 @@ pub finish : {T E : Type 0} (r : Result T E) (new old a b : List ℕ) → a ≡ 
 finish (Ok x) new old a b e h = h ∙ ap (λ (t : List ℕ). old ++ t) e
 finish (Err x) new old a b e h = tt
 
-pub block_text : (i : Instr) (k : Option ValType) (xs ys : List Instr) → i ≡ Block k xs → ys ≡ xs → (0x02 ∷ kind_byte k ∷ canon_code (code_of ys) ++ 0x0B ∷ []) ≡ canon_code (onto i done)
+pub block_text : (i : Instr) (k : Option ValType) (xs ys : List Instr) → i ≡ Block k xs → ys ≡ xs
+    → (0x02 ∷ kind_byte k ∷ canon_code (code_of ys) ++ 0x0B ∷ []) ≡ canon_code (onto i done)
 block_text i k xs ys e f = ap (λ (zs : List Instr). 0x02 ∷ kind_byte k ∷ canon_code (code_of zs) ++ 0x0B ∷ []) f ∙ sym (append-nil (0x02 ∷ kind_byte k ∷ canon_code (code_of xs) ++ 0x0B ∷ [])) ∙ ap canon_code (sym (onto-block k xs done)) ∙ ap (λ (j : Instr). canon_code (onto j done)) (sym e)
 
-pub loop_text : (i : Instr) (k : Option ValType) (xs ys : List Instr) → i ≡ Loop k xs → ys ≡ xs → (0x03 ∷ kind_byte k ∷ canon_code (code_of ys) ++ 0x0B ∷ []) ≡ canon_code (onto i done)
+pub loop_text : (i : Instr) (k : Option ValType) (xs ys : List Instr) → i ≡ Loop k xs → ys ≡ xs
+    → (0x03 ∷ kind_byte k ∷ canon_code (code_of ys) ++ 0x0B ∷ []) ≡ canon_code (onto i done)
 loop_text i k xs ys e f = ap (λ (zs : List Instr). 0x03 ∷ kind_byte k ∷ canon_code (code_of zs) ++ 0x0B ∷ []) f ∙ sym (append-nil (0x03 ∷ kind_byte k ∷ canon_code (code_of xs) ++ 0x0B ∷ [])) ∙ ap canon_code (sym (onto-loop k xs done)) ∙ ap (λ (j : Instr). canon_code (onto j done)) (sym e)
 
-pub if_text : (i : Instr) (k : Option ValType) (xs ys us vs : List Instr) → i ≡ If k xs ys → us ≡ xs → vs ≡ ys → (0x04 ∷ kind_byte k ∷ canon_code (code_of us) ++ (else_part (canon_code (code_of vs)) ++ 0x0B ∷ [])) ≡ canon_code (onto i done)
+pub if_text : (i : Instr) (k : Option ValType) (xs ys us vs : List Instr) → i ≡ If k xs ys → us ≡ xs → vs ≡ ys
+    → (0x04 ∷ kind_byte k ∷ canon_code (code_of us) ++ (else_part (canon_code (code_of vs)) ++ 0x0B ∷ [])) ≡ canon_code (onto i done)
 if_text i k xs ys us vs e f g =
     ap (λ (zs : List Instr). 0x04 ∷ kind_byte k ∷ canon_code (code_of zs) ++ (else_part (canon_code (code_of vs)) ++ 0x0B ∷ [])) f
     ∙ ap (λ (zs : List Instr). 0x04 ∷ kind_byte k ∷ canon_code (code_of xs) ++ (else_part (canon_code (code_of zs)) ++ 0x0B ∷ [])) g
@@ -121,12 +127,14 @@ pub record IsInside (i : Instr) (xs : List Instr) : Type 0 where
   pub proper : ProperCode (code_of xs)
   pub short : length (canon_code (code_of xs)) < 2 ^ 32
 
-pub in_block : (i : Instr) (k : Option ValType) (xs ys : List Instr) → i ≡ Block k xs → ys ≡ xs → ProperCode (onto i done) → length (canon_code (onto i done)) < 2 ^ 32 → IsInside i ys
+pub in_block : (i : Instr) (k : Option ValType) (xs ys : List Instr) → i ≡ Block k xs → ys ≡ xs → ProperCode (onto i done)
+    → length (canon_code (onto i done)) < 2 ^ 32 → IsInside i ys
 in_block i k xs ys e f h lt =
     let shown : onto i done ≡ block k (code_of ys) done = ap (λ (j : Instr). onto j done) e ∙ onto-block k xs done ∙ ap (λ (zs : List Instr). block k (code_of zs) done) (sym f) in
     record { smaller = omega (arith, ap count shown); proper = (subst ProperCode shown h).0; short = enclosed_short 0x02 (kind_byte k) (canon_code (code_of ys)) (canon_code (onto i done)) (block_text i k xs ys e f) lt }
 
-pub in_loop : (i : Instr) (k : Option ValType) (xs ys : List Instr) → i ≡ Loop k xs → ys ≡ xs → ProperCode (onto i done) → length (canon_code (onto i done)) < 2 ^ 32 → IsInside i ys
+pub in_loop : (i : Instr) (k : Option ValType) (xs ys : List Instr) → i ≡ Loop k xs → ys ≡ xs → ProperCode (onto i done)
+    → length (canon_code (onto i done)) < 2 ^ 32 → IsInside i ys
 in_loop i k xs ys e f h lt =
     let shown : onto i done ≡ repeat k (code_of ys) done = ap (λ (j : Instr). onto j done) e ∙ onto-loop k xs done ∙ ap (λ (zs : List Instr). repeat k (code_of zs) done) (sym f) in
     record { smaller = omega (arith, ap count shown); proper = (subst ProperCode shown h).0; short = enclosed_short 0x03 (kind_byte k) (canon_code (code_of ys)) (canon_code (onto i done)) (loop_text i k xs ys e f) lt }
@@ -141,10 +149,13 @@ pub record HasInside (i : Instr) (xs ys : List Instr) : Type 0 where
 first_of_arms : (k : ℕ) (first second all : List ℕ) → (0x04 ∷ k ∷ first ++ (else_part second ++ 0x0B ∷ [])) ≡ all → length all < 2 ^ 32 → length first < 2 ^ 32
 first_of_arms k first second all e lt = omega (arith, ap length e, length-append first (else_part second ++ 0x0B ∷ []))
 
-second_of_arms : (k : ℕ) (first second all : List ℕ) → (0x04 ∷ k ∷ first ++ (else_part second ++ 0x0B ∷ [])) ≡ all → length all < 2 ^ 32 → length second < 2 ^ 32
-second_of_arms k first second all e lt = omega (arith, ap length e, length-append first (else_part second ++ 0x0B ∷ []), length-append (else_part second) (0x0B ∷ []), else_long second)
+second_of_arms : (k : ℕ) (first second all : List ℕ) → (0x04 ∷ k ∷ first ++ (else_part second ++ 0x0B ∷ [])) ≡ all → length all < 2 ^ 32
+    → length second < 2 ^ 32
+second_of_arms k first second all e lt =
+    omega (arith, ap length e, length-append first (else_part second ++ 0x0B ∷ []), length-append (else_part second) (0x0B ∷ []), else_long second)
 
-pub in_if : (i : Instr) (k : Option ValType) (xs ys us vs : List Instr) → i ≡ If k xs ys → us ≡ xs → vs ≡ ys → ProperCode (onto i done) → length (canon_code (onto i done)) < 2 ^ 32 → HasInside i us vs
+pub in_if : (i : Instr) (k : Option ValType) (xs ys us vs : List Instr) → i ≡ If k xs ys → us ≡ xs → vs ≡ ys → ProperCode (onto i done)
+    → length (canon_code (onto i done)) < 2 ^ 32 → HasInside i us vs
 in_if i k xs ys us vs e f g h lt =
     let shown : onto i done ≡ branch k (code_of us) (code_of vs) done =
     ap (λ (j : Instr). onto j done) e ∙ onto-if k xs ys done ∙ ap (λ (zs : List Instr). branch k (code_of zs) (code_of ys) done) (sym f) ∙ ap (λ (zs : List Instr). branch k (code_of us) (code_of zs) done) (sym g) in
@@ -158,6 +169,8 @@ in_if i k xs ys us vs e f g h lt =
       second_short = second_of_arms (kind_byte k) (canon_code (code_of us)) (canon_code (code_of vs)) (canon_code (onto i done)) text lt;
     }
 
-pub one_more_byte : {T E : Type 0} (r : Result T E) (new mid old all rest : List ℕ) (b : ℕ) → mid ≡ old ++ b ∷ [] → all ≡ b ∷ rest → OnOk r (new ≡ mid ++ rest) → OnOk r (new ≡ old ++ all)
-one_more_byte (Ok x) new mid old all rest b p q h = h ∙ ap (λ (l : List ℕ). l ++ rest) p ∙ append_assoc old (b ∷ []) rest ∙ ap (λ (l : List ℕ). old ++ l) (sym q)
+pub one_more_byte : {T E : Type 0} (r : Result T E) (new mid old all rest : List ℕ) (b : ℕ) → mid ≡ old ++ b ∷ [] → all ≡ b ∷ rest
+    → OnOk r (new ≡ mid ++ rest) → OnOk r (new ≡ old ++ all)
+one_more_byte (Ok x) new mid old all rest b p q h =
+    h ∙ ap (λ (l : List ℕ). l ++ rest) p ∙ append_assoc old (b ∷ []) rest ∙ ap (λ (l : List ℕ). old ++ l) (sym q)
 one_more_byte (Err e) new mid old all rest b p q h = tt

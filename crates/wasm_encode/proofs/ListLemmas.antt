@@ -15,7 +15,8 @@ use Rattle.wasm_types.proofs.LeastLemmas.{canon_lengths}
 use Rattle.wasm_types.proofs.SizeLemmas.{counted_long, sized_long, func_type_long, elem_long, list_long}
 
 -- the text of the items from a place on begins with that of the item there
-pub each-next : {A : Type 0} (f : A → List ℕ) (xs : List A) (k : ℕ) (x : A) → k < length xs → x ≡ get_or xs k x → canon_each f (drop k xs) ≡ f x ++ canon_each f (drop (k + 1) xs)
+pub each-next : {A : Type 0} (f : A → List ℕ) (xs : List A) (k : ℕ) (x : A) → k < length xs → x ≡ get_or xs k x
+    → canon_each f (drop k xs) ≡ f x ++ canon_each f (drop (k + 1) xs)
 each-next f xs k x lt is = rw (drop-cons xs k x lt, ← is, add-one) refl
 
 each_at : {A : Type 0} (f : A → List ℕ) (xs : List A) (k : ℕ) (d : A) → k < length xs → length (f (get_or xs k d)) ≤ length (canon_each f xs)
@@ -24,7 +25,8 @@ each_at f (x ∷ xs) zero d lt = omega (arith, length-append (f x) (canon_each f
 each_at f (x ∷ xs) (suc k) d lt = omega (arith, each_at f xs k d (omega arith), length-append (f x) (canon_each f xs))
 
 -- an item of a list is as short as the whole
-pub item_short : {A : Type 0} (f : A → List ℕ) (xs : List A) (k : ℕ) (x : A) → k < length xs → x ≡ get_or xs k x → length (canon_each f xs) < 2 ^ 32 → length (f x) < 2 ^ 32
+pub item_short : {A : Type 0} (f : A → List ℕ) (xs : List A) (k : ℕ) (x : A) → k < length xs → x ≡ get_or xs k x → length (canon_each f xs) < 2 ^ 32
+    → length (f x) < 2 ^ 32
 item_short f xs k x lt is short = let le : length (f x) ≤ length (canon_each f xs) = subst (λ y. length (f y) ≤ length (canon_each f xs)) (sym is) (each_at f xs k x lt) in omega (arith, le, short)
 
 pub item_proper : {A : Type 0} (Q : A → Type 0) (xs : List A) (k : ℕ) (x : A) → k < length xs → x ≡ get_or xs k x → All Q xs → Q x
@@ -45,14 +47,17 @@ pub funcs_few : (e : Elem) (funcs : List ℕ) → funcs ≡ e.funcs → length (
 funcs_few e funcs is short = omega (arith, short, ap length is, elem_long e)
 
 pub locals_few : (b : Body) (locals : List LocalRun) → locals ≡ b.locals → length (canon_body b) < 2 ^ 32 → length locals < 2 ^ 32
-locals_few b locals is short = omega (arith, short, ap length is, counted_long canon_run some_run b.locals, length-append (canon_counted canon_run b.locals) (canon_instrs b.code))
+locals_few b locals is short =
+    omega (arith, short, ap length is, counted_long canon_run some_run b.locals, length-append (canon_counted canon_run b.locals) (canon_instrs b.code))
 
-pub body_short : (bodies : List Body) (k : ℕ) (b : Body) → k < length bodies → b ≡ get_or bodies k b → length (canon_each canon_entry bodies) < 2 ^ 32 → length (canon_body b) < 2 ^ 32
+pub body_short : (bodies : List Body) (k : ℕ) (b : Body) → k < length bodies → b ≡ get_or bodies k b → length (canon_each canon_entry bodies) < 2 ^ 32
+    → length (canon_body b) < 2 ^ 32
 body_short bodies k b lt is short = omega (arith, item_short canon_entry bodies k b lt is short, sized_long (canon_body b))
 
 -- ---- lists of a module
 
-pub list_few : {A : Type 0} (id : ℕ) (f : A → List ℕ) → ((x : A) → 1 ≤ length (f x)) → (xs ys : List A) → ys ≡ xs → length (canon_list id f xs) < 2 ^ 32 → length ys < 2 ^ 32
+pub list_few : {A : Type 0} (id : ℕ) (f : A → List ℕ) → ((x : A) → 1 ≤ length (f x)) → (xs ys : List A) → ys ≡ xs
+    → length (canon_list id f xs) < 2 ^ 32 → length ys < 2 ^ 32
 list_few id f some xs ys is short = omega (arith, short, ap length is, list_long id f some xs)
 
 pub list_short : {A : Type 0} (id : ℕ) (f : A → List ℕ) (xs ys : List A) → ys ≡ xs → length (canon_list id f xs) < 2 ^ 32 → length (canon_list id f ys) < 2 ^ 32

@@ -64,7 +64,8 @@ both P Q a b v p q = record { front = a; back = b; parts = refl; first = p; seco
 behind : (byte : ℕ) (P : List ℕ → Type 0) (a : List ℕ) → P a → Behind byte P (byte ∷ a)
 behind byte P a p = record { rest = a; parts = refl; spelled = p }
 
-each_spelled : {A : Type 0} (P : List ℕ → A → Type 0) (f : A → List ℕ) (Q : A → Type 0) → IsSpelled P f Q → (xs : List A) → All Q xs → length (canon_each f xs) < 2 ^ 32 → Each P (canon_each f xs) xs
+each_spelled : {A : Type 0} (P : List ℕ → A → Type 0) (f : A → List ℕ) (Q : A → Type 0) → IsSpelled P f Q → (xs : List A) → All Q xs
+    → length (canon_each f xs) < 2 ^ 32 → Each P (canon_each f xs) xs
 each_spelled P f Q law [] h lt = refl
 each_spelled P f Q law (x ∷ xs) h lt = record {
   front = f x;
@@ -74,7 +75,8 @@ each_spelled P f Q law (x ∷ xs) h lt = record {
   second = each_spelled P f Q law xs (All-tail Q x xs h) (right (f x) (canon_each f xs) lt);
 }
 
-pub counted_spelled : {A : Type 0} (P : List ℕ → A → Type 0) (f : A → List ℕ) (Q : A → Type 0) → IsSpelled P f Q → ((x : A) → 1 ≤ length (f x)) → IsSpelled (Counted P) (canon_counted f) (All Q)
+pub counted_spelled : {A : Type 0} (P : List ℕ → A → Type 0) (f : A → List ℕ) (Q : A → Type 0) → IsSpelled P f Q → ((x : A) → 1 ≤ length (f x))
+    → IsSpelled (Counted P) (canon_counted f) (All Q)
 counted_spelled P f Q law some xs h lt =
     let rest : length (canon_each f xs) < 2 ^ 32 = right (shortest_u32 (length xs)) (canon_each f xs) lt in
     record {
@@ -106,8 +108,10 @@ pub immediates_spelled : (t : Immediates) → ProperImmediates t → length (can
 immediates_spelled nothing h lt = refl
 immediates_spelled (number n) h lt = u32_spelled n h
 immediates_spelled (labels some label) h lt = both (Counted SpellsU32) SpellsU32 (canon_counted shortest_u32 some) (shortest_u32 label) (some, label) (spelled_u32s some h.0 (left (canon_counted shortest_u32 some) (shortest_u32 label) lt)) (u32_spelled label h.1)
-immediates_spelled (signature type) h lt = both SpellsU32 SpellsU32 (shortest_u32 type) (shortest_u32 0) (type, 0) (u32_spelled type h) (u32_spelled 0 (omega arith))
-immediates_spelled (address align offset) h lt = both SpellsU32 SpellsU32 (shortest_u32 align) (shortest_u32 offset) (align, offset) (u32_spelled align h.0) (u32_spelled offset h.1)
+immediates_spelled (signature type) h lt =
+    both SpellsU32 SpellsU32 (shortest_u32 type) (shortest_u32 0) (type, 0) (u32_spelled type h) (u32_spelled 0 (omega arith))
+immediates_spelled (address align offset) h lt =
+    both SpellsU32 SpellsU32 (shortest_u32 align) (shortest_u32 offset) (align, offset) (u32_spelled align h.0) (u32_spelled offset h.1)
 immediates_spelled memory h lt = refl
 immediates_spelled (signed_32 n) h lt = signed_spells 8 4 n (omega arith) (omega arith) (omega (arith, h))
 immediates_spelled (signed_64 n) h lt = signed_spells 1 9 n (omega arith) (omega arith) (omega (arith, h))
@@ -121,7 +125,8 @@ pub else_long : (text : List ℕ) → length text ≤ length (else_part text)
 else_long [] = omega arith
 else_long (b ∷ bs) = omega arith
 
-arms_spelled : (k : Option ValType) (P Q : List ℕ → Type 0) (most others : List ℕ) → P most → Q others → HasArms k P Q (0x04 ∷ kind_byte k ∷ most ++ (else_part others ++ 0x0B ∷ []))
+arms_spelled : (k : Option ValType) (P Q : List ℕ → Type 0) (most others : List ℕ) → P most → Q others
+    → HasArms k P Q (0x04 ∷ kind_byte k ∷ most ++ (else_part others ++ 0x0B ∷ []))
 arms_spelled k P Q most [] p q = record { yes = most; first = p; others = inl (refl, q) }
 arms_spelled k P Q most (b ∷ bs) p q = record { yes = most; first = p; others = inr (b ∷ bs, q, refl) }
 

@@ -66,13 +66,16 @@ lower j k (p ∷ ps) le h = (omega (arith, h.0), h.1, h.2)
 frame_spelled : (id : ℕ) (contents : List ℕ) → length (canon_section id contents) < 2 ^ 32 → SpellsFrame (canon_section id contents) (id, contents)
 frame_spelled id contents lt = record { rest = canon_sized contents; parts = refl; spelled = sized_spelled contents (omega arith) }
 
-put_spelled : (id : ℕ) (o : Option (List ℕ)) (text : List ℕ) (fs : List (ℕ × List ℕ)) → length (part id o ++ text) < 2 ^ 32 → Each SpellsFrame text fs → Each SpellsFrame (part id o ++ text) (put id o fs)
+put_spelled : (id : ℕ) (o : Option (List ℕ)) (text : List ℕ) (fs : List (ℕ × List ℕ)) → length (part id o ++ text) < 2 ^ 32 → Each SpellsFrame text fs
+    → Each SpellsFrame (part id o ++ text) (put id o fs)
 put_spelled id None text fs lt h = h
 put_spelled id (Some contents) text fs lt h = record { front = canon_section id contents; back = text; parts = refl; first = frame_spelled id contents (left (canon_section id contents) text lt); second = h }
 
-frames_spelled : (text : List ℕ) (tail : List (ℕ × List ℕ)) (ps : List (ℕ × Option (List ℕ))) → (length text < 2 ^ 32 → Each SpellsFrame text tail) → length (texts_of text ps) < 2 ^ 32 → Each SpellsFrame (texts_of text ps) (frames_of tail ps)
+frames_spelled : (text : List ℕ) (tail : List (ℕ × List ℕ)) (ps : List (ℕ × Option (List ℕ))) → (length text < 2 ^ 32 → Each SpellsFrame text tail)
+    → length (texts_of text ps) < 2 ^ 32 → Each SpellsFrame (texts_of text ps) (frames_of tail ps)
 frames_spelled text tail [] h lt = h lt
-frames_spelled text tail (p ∷ ps) h lt = put_spelled p.0 p.1 (texts_of text ps) (frames_of tail ps) lt (frames_spelled text tail ps h (right (part p.0 p.1) (texts_of text ps) lt))
+frames_spelled text tail (p ∷ ps) h lt =
+    put_spelled p.0 p.1 (texts_of text ps) (frames_of tail ps) lt (frames_spelled text tail ps h (right (part p.0 p.1) (texts_of text ps) lt))
 
 names_spelled : (names : Option (List ℕ)) → length (canon_names names) < 2 ^ 32 → Each SpellsFrame (canon_names names) (names_for names)
 names_spelled None lt = refl
@@ -82,11 +85,13 @@ names_spelled (Some payload) lt =
 
 -- ---- their order
 
-put_ordered : (last id : ℕ) (o : Option (List ℕ)) (fs : List (ℕ × List ℕ)) → last < id → id ≤ 11 → (final : ℕ) × InOrder last fs final → (final : ℕ) × InOrder id fs final → (final : ℕ) × InOrder last (put id o fs) final
+put_ordered : (last id : ℕ) (o : Option (List ℕ)) (fs : List (ℕ × List ℕ)) → last < id → id ≤ 11 → (final : ℕ) × InOrder last fs final
+    → (final : ℕ) × InOrder id fs final → (final : ℕ) × InOrder last (put id o fs) final
 put_ordered last id None fs lt le low high = low
 put_ordered last id (Some contents) fs lt le low high = (high.0, (inr (lt, le), subst (λ (k : ℕ). InOrder k fs high.0) (let e : id ≡ max last id = omega arith in e) high.1))
 
-frames_ordered : (last : ℕ) (tail : List (ℕ × List ℕ)) (ps : List (ℕ × Option (List ℕ))) → ((k : ℕ) → (final : ℕ) × InOrder k tail final) → Rising last ps → (final : ℕ) × InOrder last (frames_of tail ps) final
+frames_ordered : (last : ℕ) (tail : List (ℕ × List ℕ)) (ps : List (ℕ × Option (List ℕ))) → ((k : ℕ) → (final : ℕ) × InOrder k tail final)
+    → Rising last ps → (final : ℕ) × InOrder last (frames_of tail ps) final
 frames_ordered last tail [] h r = h last
 frames_ordered last tail (p ∷ ps) h r = put_ordered last p.0 p.1 (frames_of tail ps) r.0 r.1 (frames_ordered last tail ps h (lower last p.0 ps (omega (arith, r.0)) r.2)) (frames_ordered p.0 tail ps h r.2)
 
@@ -102,13 +107,16 @@ absent id last (p ∷ ps) le r =
     let off : (p.0 == id) ≡ false = grind (arith, nat_tests, r.0) in
     rw off (absent id p.0 ps (omega (arith, r.0)) r.2)
 
-put_found : (id k : ℕ) (o rest : Option (List ℕ)) (fs : List (ℕ × List ℕ)) → contents_of id fs ≡ rest → (k ≡ id → rest ≡ None) → contents_of id (put k o fs) ≡ (if k == id then o else rest)
+put_found : (id k : ℕ) (o rest : Option (List ℕ)) (fs : List (ℕ × List ℕ)) → contents_of id fs ≡ rest → (k ≡ id → rest ≡ None)
+    → contents_of id (put k o fs) ≡ (if k == id then o else rest)
 put_found id k None rest fs e none = e ∙ grind (arith, nat_tests, none)
 put_found id k (Some contents) rest fs e none = ap (λ (r : Option (List ℕ)). if k == id then Some contents else r) e
 
-found : (id last : ℕ) (tail : List (ℕ × List ℕ)) (ps : List (ℕ × Option (List ℕ))) → contents_of id tail ≡ None → Rising last ps → contents_of id (frames_of tail ps) ≡ look id ps
+found : (id last : ℕ) (tail : List (ℕ × List ℕ)) (ps : List (ℕ × Option (List ℕ))) → contents_of id tail ≡ None → Rising last ps
+    → contents_of id (frames_of tail ps) ≡ look id ps
 found id last tail [] none r = none
-found id last tail (p ∷ ps) none r = put_found id p.0 p.1 (look id ps) (frames_of tail ps) (found id p.0 tail ps none r.2) (λ e. absent id p.0 ps (omega (arith, e)) r.2)
+found id last tail (p ∷ ps) none r =
+    put_found id p.0 p.1 (look id ps) (frames_of tail ps) (found id p.0 tail ps none r.2) (λ e. absent id p.0 ps (omega (arith, e)) r.2)
 
 names_apart : (id : ℕ) (names : Option (List ℕ)) → 0 < id → contents_of id (names_for names) ≡ None
 names_apart id None lt = refl
@@ -120,7 +128,8 @@ put_named : (id : ℕ) (o : Option (List ℕ)) (fs : List (ℕ × List ℕ)) (na
 put_named id None fs names lt h = h
 put_named id (Some contents) fs names lt h = (names, h, inl (λ e. omega (arith, e), refl))
 
-frames_named : (last : ℕ) (tail : List (ℕ × List ℕ)) (ps : List (ℕ × Option (List ℕ))) (names : Option (List ℕ)) → NamesAre tail names → Rising last ps → NamesAre (frames_of tail ps) names
+frames_named : (last : ℕ) (tail : List (ℕ × List ℕ)) (ps : List (ℕ × Option (List ℕ))) (names : Option (List ℕ)) → NamesAre tail names
+    → Rising last ps → NamesAre (frames_of tail ps) names
 frames_named last tail [] names h r = h
 frames_named last tail (p ∷ ps) names h r = put_named p.0 p.1 (frames_of tail ps) names (omega (arith, r.0)) (frames_named p.0 tail ps names h r.2)
 
@@ -164,7 +173,8 @@ start_part (Some func) = refl
 join : (a b c d : List ℕ) → a ≡ b → c ≡ d → a ++ c ≡ b ++ d
 join a b c d p q = ap (λ (t : List ℕ). t ++ c) p ∙ ap (λ (t : List ℕ). b ++ t) q
 
-nest : (h a b c d e f g i j k l n : List ℕ) → h ++ a ++ b ++ c ++ d ++ e ++ f ++ g ++ i ++ j ++ k ++ l ++ n ≡ h ++ (a ++ (b ++ (c ++ (d ++ (e ++ (f ++ (g ++ (i ++ (j ++ (k ++ (l ++ n)))))))))))
+nest : (h a b c d e f g i j k l n : List ℕ)
+    → h ++ a ++ b ++ c ++ d ++ e ++ f ++ g ++ i ++ j ++ k ++ l ++ n ≡ h ++ (a ++ (b ++ (c ++ (d ++ (e ++ (f ++ (g ++ (i ++ (j ++ (k ++ (l ++ n)))))))))))
 nest h a b c d e f g i j k l n = simp append_assoc refl
 
 canon_parts : (m : Module) → canon m ≡ header ++ sections_of m
@@ -178,7 +188,8 @@ canon_parts m =
 rising : (m : Module) → Rising 0 (parts_of m)
 rising m = (omega arith, omega arith, (omega arith, omega arith, (omega arith, omega arith, (omega arith, omega arith, (omega arith, omega arith, (omega arith, omega arith, (omega arith, omega arith, (omega arith, omega arith, (omega arith, omega arith, (omega arith, omega arith, (omega arith, omega arith, tt)))))))))))
 
-list_spelled : {A : Type 0} (P : List ℕ → A → Type 0) (f : A → List ℕ) (Q : A → Type 0) (id : ℕ) → IsSpelled P f Q → ((x : A) → 1 ≤ length (f x)) → (xs : List A) → All Q xs → length (part id (contents_for f xs)) < 2 ^ 32 → ListIs (Counted P) xs (contents_for f xs)
+list_spelled : {A : Type 0} (P : List ℕ → A → Type 0) (f : A → List ℕ) (Q : A → Type 0) (id : ℕ) → IsSpelled P f Q → ((x : A) → 1 ≤ length (f x))
+    → (xs : List A) → All Q xs → length (part id (contents_for f xs)) < 2 ^ 32 → ListIs (Counted P) xs (contents_for f xs)
 list_spelled P f Q id law some [] h lt = refl
 list_spelled P f Q id law some (x ∷ xs) h lt = counted_spelled P f Q law some (x ∷ xs) h (let text : List ℕ = canon_counted f (x ∷ xs) in let sized : length (canon_sized text) < 2 ^ 32 = omega arith in right (shortest_u32 (length text)) text sized)
 

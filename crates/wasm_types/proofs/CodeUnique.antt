@@ -79,7 +79,8 @@ leads (repeat k m rest) a e x p = leads_back (λ op. op ≡ 3) a p.front p.back 
 leads (branch k m n rest) a e x p = let h = arms_first _ _ _ _ p.first in leads_back (λ op. op ≡ 4) a p.front p.back 4 h.0 (e ∷ x) p.parts h.1 refl
 
 -- two openings of one kind
-opens : (op : ℕ) (k l : Option ValType) (P Q : List ℕ → Type 0) (a b x y : List ℕ) (p : Encloses op k P a) (q : Encloses op l Q b) → a ++ x ≡ b ++ y → (k ≡ l) × (p.inner ++ 0x0B ∷ x ≡ q.inner ++ 0x0B ∷ y)
+opens : (op : ℕ) (k l : Option ValType) (P Q : List ℕ → Type 0) (a b x y : List ℕ) (p : Encloses op k P a) (q : Encloses op l Q b) → a ++ x ≡ b ++ y
+    → (k ≡ l) × (p.inner ++ 0x0B ∷ x ≡ q.inner ++ 0x0B ∷ y)
 opens op k l P Q a b x y p q e =
     let h : op ∷ kind_byte k ∷ (p.inner ++ 0x0B ∷ [] ++ x) ≡ op ∷ kind_byte l ∷ (q.inner ++ 0x0B ∷ [] ++ y) = ap (λ (t : List ℕ). t ++ x) (sym p.parts) ∙ e ∙ ap (λ (t : List ℕ). t ++ y) q.parts in
     (one_kind k l cc, sym (append_assoc p.inner (0x0B ∷ []) x) ∙ (let g : p.inner ++ 0x0B ∷ [] ++ x ≡ q.inner ++ 0x0B ∷ [] ++ y = cc in g) ∙ append_assoc q.inner (0x0B ∷ []) y)
@@ -91,7 +92,8 @@ tail_cons : (k : ℕ) (u w x a : List ℕ) (g : ℕ) → a ≡ 0x04 ∷ k ∷ u 
 tail_cons k u w x a g p = ap (λ (t : List ℕ). t ++ x) p ∙ ap (λ (t : List ℕ). 0x04 ∷ k ∷ t) (append_assoc u (g ∷ w) x)
 
 -- the first arms are one, and what follows them
-firsts : {Same : Type 0} (M N : List ℕ → Type 0) (k l : Option ValType) (u v w z x y a b : List ℕ) (g h : ℕ) → Apart Same M N → M u → N v → IsEnder g → IsEnder h
+firsts : {Same : Type 0} (M N : List ℕ → Type 0) (k l : Option ValType) (u v w z x y a b : List ℕ) (g h : ℕ) → Apart Same M N → M u → N v → IsEnder g
+    → IsEnder h
     → a ≡ 0x04 ∷ kind_byte k ∷ u ++ g ∷ w → b ≡ 0x04 ∷ kind_byte l ∷ v ++ h ∷ z → a ++ x ≡ b ++ y → (k ≡ l) × Same × (u ≡ v) × (g ∷ (w ++ x) ≡ h ∷ (z ++ y))
 firsts M N k l u v w z x y a b g h law mu nv eg eh p q e =
     let whole : 0x04 ∷ kind_byte k ∷ (u ++ g ∷ (w ++ x)) ≡ 0x04 ∷ kind_byte l ∷ (v ++ h ∷ (z ++ y)) = sym (tail_cons (kind_byte k) u w x a g p) ∙ e ∙ tail_cons (kind_byte l) v z y b h q in
@@ -99,7 +101,8 @@ firsts M N k l u v w z x y a b g h law mu nv eg eh p q e =
     let r = law u v (w ++ x) (z ++ y) g h mu nv eg eh inside in
     (one_kind k l cc, r.0, r.1, after u v (g ∷ (w ++ x)) (h ∷ (z ++ y)) r.1 inside)
 
-arms_one : {SameFirst SameSecond : Type 0} (k l : Option ValType) (M N O T : List ℕ → Type 0) (a b x y u v : List ℕ) → Apart SameFirst M N → Apart SameSecond O T → M u → N v
+arms_one : {SameFirst SameSecond : Type 0} (k l : Option ValType) (M N O T : List ℕ → Type 0) (a b x y u v : List ℕ) → Apart SameFirst M N
+    → Apart SameSecond O T → M u → N v
     → ((a ≡ 0x04 ∷ kind_byte k ∷ u ++ 0x0B ∷ []) × O []) ⊎ ((no : List ℕ) × O no × (a ≡ 0x04 ∷ kind_byte k ∷ u ++ 0x05 ∷ (no ++ 0x0B ∷ [])))
     → ((b ≡ 0x04 ∷ kind_byte l ∷ v ++ 0x0B ∷ []) × T []) ⊎ ((no : List ℕ) × T no × (b ≡ 0x04 ∷ kind_byte l ∷ v ++ 0x05 ∷ (no ++ 0x0B ∷ [])))
     → a ++ x ≡ b ++ y → (k ≡ l) × SameFirst × SameSecond × (a ≡ b)
@@ -133,7 +136,8 @@ one_code (one i r) (one j s) a b x y e f p q ee ff eq =
     (cc (head.1, tail.0), cc (p.parts, q.parts, head.0, tail.1))
 one_code (one i r) (block l n s) a b x y e f p q ee ff eq = absurd (grind (arith, leads (one i r) a e x p, leads (block l n s) b f y q, ap first eq, ee, ff))
 one_code (one i r) (repeat l n s) a b x y e f p q ee ff eq = absurd (grind (arith, leads (one i r) a e x p, leads (repeat l n s) b f y q, ap first eq, ee, ff))
-one_code (one i r) (branch l n t s) a b x y e f p q ee ff eq = absurd (grind (arith, leads (one i r) a e x p, leads (branch l n t s) b f y q, ap first eq, ee, ff))
+one_code (one i r) (branch l n t s) a b x y e f p q ee ff eq =
+    absurd (grind (arith, leads (one i r) a e x p, leads (branch l n t s) b f y q, ap first eq, ee, ff))
 one_code (block k m r) done a b x y e f p q ee ff eq = absurd (grind (arith, leads (block k m r) a e x p, leads done b f y q, ap first eq, ee, ff))
 one_code (block k m r) (one j s) a b x y e f p q ee ff eq = absurd (grind (arith, leads (block k m r) a e x p, leads (one j s) b f y q, ap first eq, ee, ff))
 one_code (block k m r) (block l n s) a b x y e f p q ee ff eq =
@@ -143,11 +147,14 @@ one_code (block k m r) (block l n s) a b x y e f p q ee ff eq =
     let fronts : p.front ≡ q.front = cc (p.first.parts, q.first.parts, opened.0, inside.1) in
     let tail = one_code r s p.back q.back x y e f p.second q.second ee ff (after p.front q.front _ _ fronts whole) in
     (cc (opened.0, inside.0, tail.0), cc (p.parts, q.parts, fronts, tail.1))
-one_code (block k m r) (repeat l n s) a b x y e f p q ee ff eq = absurd (grind (arith, leads (block k m r) a e x p, leads (repeat l n s) b f y q, ap first eq, ee, ff))
-one_code (block k m r) (branch l n t s) a b x y e f p q ee ff eq = absurd (grind (arith, leads (block k m r) a e x p, leads (branch l n t s) b f y q, ap first eq, ee, ff))
+one_code (block k m r) (repeat l n s) a b x y e f p q ee ff eq =
+    absurd (grind (arith, leads (block k m r) a e x p, leads (repeat l n s) b f y q, ap first eq, ee, ff))
+one_code (block k m r) (branch l n t s) a b x y e f p q ee ff eq =
+    absurd (grind (arith, leads (block k m r) a e x p, leads (branch l n t s) b f y q, ap first eq, ee, ff))
 one_code (repeat k m r) done a b x y e f p q ee ff eq = absurd (grind (arith, leads (repeat k m r) a e x p, leads done b f y q, ap first eq, ee, ff))
 one_code (repeat k m r) (one j s) a b x y e f p q ee ff eq = absurd (grind (arith, leads (repeat k m r) a e x p, leads (one j s) b f y q, ap first eq, ee, ff))
-one_code (repeat k m r) (block l n s) a b x y e f p q ee ff eq = absurd (grind (arith, leads (repeat k m r) a e x p, leads (block l n s) b f y q, ap first eq, ee, ff))
+one_code (repeat k m r) (block l n s) a b x y e f p q ee ff eq =
+    absurd (grind (arith, leads (repeat k m r) a e x p, leads (block l n s) b f y q, ap first eq, ee, ff))
 one_code (repeat k m r) (repeat l n s) a b x y e f p q ee ff eq =
     let whole : p.front ++ (p.back ++ e ∷ x) ≡ q.front ++ (q.back ++ f ∷ y) = regroup a b _ _ _ _ _ _ p.parts q.parts eq in
     let opened = opens _ k l _ _ _ _ _ _ p.first q.first whole in
@@ -155,11 +162,15 @@ one_code (repeat k m r) (repeat l n s) a b x y e f p q ee ff eq =
     let fronts : p.front ≡ q.front = cc (p.first.parts, q.first.parts, opened.0, inside.1) in
     let tail = one_code r s p.back q.back x y e f p.second q.second ee ff (after p.front q.front _ _ fronts whole) in
     (cc (opened.0, inside.0, tail.0), cc (p.parts, q.parts, fronts, tail.1))
-one_code (repeat k m r) (branch l n t s) a b x y e f p q ee ff eq = absurd (grind (arith, leads (repeat k m r) a e x p, leads (branch l n t s) b f y q, ap first eq, ee, ff))
+one_code (repeat k m r) (branch l n t s) a b x y e f p q ee ff eq =
+    absurd (grind (arith, leads (repeat k m r) a e x p, leads (branch l n t s) b f y q, ap first eq, ee, ff))
 one_code (branch k m o r) done a b x y e f p q ee ff eq = absurd (grind (arith, leads (branch k m o r) a e x p, leads done b f y q, ap first eq, ee, ff))
-one_code (branch k m o r) (one j s) a b x y e f p q ee ff eq = absurd (grind (arith, leads (branch k m o r) a e x p, leads (one j s) b f y q, ap first eq, ee, ff))
-one_code (branch k m o r) (block l n s) a b x y e f p q ee ff eq = absurd (grind (arith, leads (branch k m o r) a e x p, leads (block l n s) b f y q, ap first eq, ee, ff))
-one_code (branch k m o r) (repeat l n s) a b x y e f p q ee ff eq = absurd (grind (arith, leads (branch k m o r) a e x p, leads (repeat l n s) b f y q, ap first eq, ee, ff))
+one_code (branch k m o r) (one j s) a b x y e f p q ee ff eq =
+    absurd (grind (arith, leads (branch k m o r) a e x p, leads (one j s) b f y q, ap first eq, ee, ff))
+one_code (branch k m o r) (block l n s) a b x y e f p q ee ff eq =
+    absurd (grind (arith, leads (branch k m o r) a e x p, leads (block l n s) b f y q, ap first eq, ee, ff))
+one_code (branch k m o r) (repeat l n s) a b x y e f p q ee ff eq =
+    absurd (grind (arith, leads (branch k m o r) a e x p, leads (repeat l n s) b f y q, ap first eq, ee, ff))
 one_code (branch k m o r) (branch l n t s) a b x y e f p q ee ff eq =
     let whole : p.front ++ (p.back ++ e ∷ x) ≡ q.front ++ (q.back ++ f ∷ y) = regroup a b _ _ _ _ _ _ p.parts q.parts eq in
     let arms = arms_one k l (SpellsCode m) (SpellsCode n) (SpellsCode o) (SpellsCode t) p.front q.front _ _ p.first.yes q.first.yes (one_code m n) (one_code o t) p.first.first q.first.first p.first.others q.first.others whole in

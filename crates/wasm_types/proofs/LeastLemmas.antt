@@ -40,12 +40,15 @@ least_u32 text n p = shortest_is_least 4 n text p
 u32_grows : (m n : ℕ) → m ≤ n → length (shortest_u32 m) ≤ length (shortest_u32 n)
 u32_grows m n le = shortest_grows 4 m n le
 
-pub both_least : {A B : Type 0} (P : List ℕ → A → Type 0) (Q : List ℕ → B → Type 0) (f : A → List ℕ) (g : B → List ℕ) → IsLeast P f → IsLeast Q g → (text : List ℕ) (v : A × B) → Both P Q text v → length (f v.0 ++ g v.1) ≤ length text
+pub both_least : {A B : Type 0} (P : List ℕ → A → Type 0) (Q : List ℕ → B → Type 0) (f : A → List ℕ) (g : B → List ℕ) → IsLeast P f → IsLeast Q g
+    → (text : List ℕ) (v : A × B) → Both P Q text v → length (f v.0 ++ g v.1) ≤ length text
 both_least P Q f g p q text v s = two_parts text s.front s.back (f v.0) (g v.1) s.parts (p s.front v.0 s.first) (q s.back v.1 s.second)
 
-each_least : {A : Type 0} (P : List ℕ → A → Type 0) (f : A → List ℕ) → IsLeast P f → (text : List ℕ) (xs : List A) → Each P text xs → length (canon_each f xs) ≤ length text
+each_least : {A : Type 0} (P : List ℕ → A → Type 0) (f : A → List ℕ) → IsLeast P f → (text : List ℕ) (xs : List A) → Each P text xs
+    → length (canon_each f xs) ≤ length text
 each_least P f law text [] s = omega arith
-each_least P f law text (x ∷ xs) s = two_parts text s.front s.back (f x) (canon_each f xs) s.parts (law s.front x s.first) (each_least P f law s.back xs s.second)
+each_least P f law text (x ∷ xs) s =
+    two_parts text s.front s.back (f x) (canon_each f xs) s.parts (law s.front x s.first) (each_least P f law s.back xs s.second)
 
 pub counted_least : {A : Type 0} (P : List ℕ → A → Type 0) (f : A → List ℕ) → IsLeast P f → IsLeast (Counted P) (canon_counted f)
 counted_least P f law text xs s = two_parts text s.front s.back (shortest_u32 (length xs)) (canon_each f xs) s.parts (least_u32 s.front (length xs) s.first) (each_least P f law s.back xs s.second)
@@ -55,7 +58,8 @@ sized_grows : (a b : List ℕ) → length a ≤ length b → length (canon_sized
 sized_grows a b le = omega (arith, le, u32_grows (length a) (length b) le, length-append (shortest_u32 (length a)) a, length-append (shortest_u32 (length b)) b)
 
 pub least_sized : IsLeast Sized canon_sized
-least_sized text bytes s = two_parts text s.front s.back (shortest_u32 (length bytes)) bytes s.parts (least_u32 s.front (length bytes) s.first) (same_size s.back bytes s.second)
+least_sized text bytes s =
+    two_parts text s.front s.back (shortest_u32 (length bytes)) bytes s.parts (least_u32 s.front (length bytes) s.first) (same_size s.back bytes s.second)
 
 -- ---- code
 
@@ -69,7 +73,8 @@ least_raw _ n p = absurd p
 immediates_least : (text : List ℕ) (t : Immediates) → SpellsImmediates text t → length (canon_immediates t) ≤ length text
 immediates_least text nothing p = omega arith
 immediates_least text (number n) p = least_u32 text n p
-immediates_least text (labels some label) p = both_least (Counted SpellsU32) SpellsU32 (canon_counted shortest_u32) shortest_u32 least_u32s least_u32 text (some, label) p
+immediates_least text (labels some label) p =
+    both_least (Counted SpellsU32) SpellsU32 (canon_counted shortest_u32) shortest_u32 least_u32s least_u32 text (some, label) p
 immediates_least text (signature type) p = both_least SpellsU32 SpellsU32 shortest_u32 shortest_u32 least_u32 least_u32 text (type, 0) p
 immediates_least text (address align offset) p = both_least SpellsU32 SpellsU32 shortest_u32 shortest_u32 least_u32 least_u32 text (align, offset) p
 immediates_least text memory p = same_size text (0x00 ∷ []) p
@@ -77,20 +82,24 @@ immediates_least text (signed_32 n) p = signed_is_least 8 4 n text (omega arith)
 immediates_least text (signed_64 n) p = signed_is_least 1 9 n text (omega arith) (omega arith) p
 immediates_least text (raw_32 n) p = least_raw text n p
 immediates_least text (raw_64 n) p = both_least SpellsRaw32 SpellsRaw32 canon_raw_32 canon_raw_32 least_raw least_raw text (p.0, p.1) p.2
-immediates_least text (bulk n) p = two_parts text p.front p.back (shortest_u32 n) (memories_of n) p.parts (least_u32 p.front n p.first) (same_size p.back (memories_of n) p.second)
+immediates_least text (bulk n) p =
+    two_parts text p.front p.back (shortest_u32 n) (memories_of n) p.parts (least_u32 p.front n p.first) (same_size p.back (memories_of n) p.second)
 immediates_least text never p = absurd p
 
 else_short : (text : List ℕ) → (length text ≤ 0 → length (else_part text) ≤ 0) × (length (else_part text) ≤ 1 + length text)
 else_short [] = (λ h. omega arith, omega arith)
 else_short (b ∷ bs) = (λ h. absurd (omega (arith, h)), omega arith)
 
-enclosed_least : (op : ℕ) (k : Option ValType) (inner text : List ℕ) (C : List ℕ → Type 0) (p : Encloses op k C text) → length inner ≤ length p.inner → length (op ∷ kind_byte k ∷ inner ++ 0x0B ∷ []) ≤ length text
+enclosed_least : (op : ℕ) (k : Option ValType) (inner text : List ℕ) (C : List ℕ → Type 0) (p : Encloses op k C text) → length inner ≤ length p.inner
+    → length (op ∷ kind_byte k ∷ inner ++ 0x0B ∷ []) ≤ length text
 enclosed_least op k inner text C p le = omega (arith, ap length p.parts, length-append p.inner (0x0B ∷ []), length-append inner (0x0B ∷ []))
 
-no_else : (k : ℕ) (front most other text : List ℕ) → text ≡ 0x04 ∷ k ∷ front ++ 0x0B ∷ [] → length most ≤ length front → length other ≤ 0 → length (0x04 ∷ k ∷ most ++ (else_part other ++ 0x0B ∷ [])) ≤ length text
+no_else : (k : ℕ) (front most other text : List ℕ) → text ≡ 0x04 ∷ k ∷ front ++ 0x0B ∷ [] → length most ≤ length front → length other ≤ 0
+    → length (0x04 ∷ k ∷ most ++ (else_part other ++ 0x0B ∷ [])) ≤ length text
 no_else k front most other text e p q = omega (arith, (else_short other).0 q, ap length e, length-append front (0x0B ∷ []), length-append most (else_part other ++ 0x0B ∷ []), length-append (else_part other) (0x0B ∷ []))
 
-with_else : (k : ℕ) (front back most other text : List ℕ) → text ≡ 0x04 ∷ k ∷ front ++ 0x05 ∷ (back ++ 0x0B ∷ []) → length most ≤ length front → length other ≤ length back → length (0x04 ∷ k ∷ most ++ (else_part other ++ 0x0B ∷ [])) ≤ length text
+with_else : (k : ℕ) (front back most other text : List ℕ) → text ≡ 0x04 ∷ k ∷ front ++ 0x05 ∷ (back ++ 0x0B ∷ []) → length most ≤ length front
+    → length other ≤ length back → length (0x04 ∷ k ∷ most ++ (else_part other ++ 0x0B ∷ [])) ≤ length text
 with_else k front back most other text e p q =
     omega (arith, (else_short other).1, ap length e, length-append front (0x05 ∷ (back ++ 0x0B ∷ [])), length-append back (0x0B ∷ []), length-append most (else_part other ++ 0x0B ∷ []), length-append (else_part other) (0x0B ∷ []))
 
@@ -111,7 +120,8 @@ code_least (branch k m n rest) text p =
     two_parts text p.front p.back (0x04 ∷ kind_byte k ∷ canon_code m ++ (else_part (canon_code n) ++ 0x0B ∷ [])) (canon_code rest) p.parts arms (code_least rest p.back p.second)
 
 pub least_instrs : IsLeast SpellsInstrs canon_instrs
-least_instrs text is p = two_parts text p.inner (0x0B ∷ []) (canon_code (code_of is)) (0x0B ∷ []) p.parts (code_least (code_of is) p.inner p.contents) (omega arith)
+least_instrs text is p =
+    two_parts text p.inner (0x0B ∷ []) (canon_code (code_of is)) (0x0B ∷ []) p.parts (code_least (code_of is) p.inner p.contents) (omega arith)
 
 -- ---- types
 
@@ -224,7 +234,8 @@ later_least : (late early : Option (List ℕ)) → size_of (later_of late early)
 later_least (Some late) early = omega arith
 later_least None early = omega arith
 
-named_least : (found : Bool) (contents front payload : List ℕ) → contents ≡ front ++ payload → (found ≡ true → length (canon_sized (codes "name")) ≤ length front)
+named_least : (found : Bool) (contents front payload : List ℕ) → contents ≡ front ++ payload
+    → (found ≡ true → length (canon_sized (codes "name")) ≤ length front)
     → size_of (if found then Some payload else None) ≤ cost (Some contents)
 named_least true contents front payload e least = section_grows 0 0 (canon_sized (codes "name") ++ payload) contents (two_parts contents front payload (canon_sized (codes "name")) payload e (least refl) (omega arith))
 named_least false contents front payload e least = omega arith
@@ -244,7 +255,8 @@ own_contents f fs = let match_here : (f.0 == f.0) ≡ true = grind (arith, nat_t
 abbrev costs : List (ℕ × List ℕ) → ℕ
 costs fs = up_to 11 (λ id. cost (contents_of id fs))
 
-frames_least : (text : List ℕ) (fs : List (ℕ × List ℕ)) (names : Option (List ℕ)) → Each SpellsFrame text fs → NamesAre fs names → costs fs + size_of names ≤ length text
+frames_least : (text : List ℕ) (fs : List (ℕ × List ℕ)) (names : Option (List ℕ)) → Each SpellsFrame text fs → NamesAre fs names
+    → costs fs + size_of names ≤ length text
 frames_least text [] names s h = omega (arith, ap size_of h)
 frames_least text (f ∷ fs) names s h =
     let rest = frames_least s.back fs h.0 s.second h.1 in
@@ -261,7 +273,8 @@ frames_least text (f ∷ fs) names s h =
 
 -- ---- the module
 
-list_least : {A : Type 0} (P : List ℕ → A → Type 0) (f : A → List ℕ) (id : ℕ) → IsLeast P f → (xs : List A) (o : Option (List ℕ)) → ListIs (Counted P) xs o → length (canon_list id f xs) ≤ cost o
+list_least : {A : Type 0} (P : List ℕ → A → Type 0) (f : A → List ℕ) (id : ℕ) → IsLeast P f → (xs : List A) (o : Option (List ℕ))
+    → ListIs (Counted P) xs o → length (canon_list id f xs) ≤ cost o
 list_least {A} P f id law xs None p = omega (arith, ap (λ (l : List A). length (canon_list id f l)) p)
 list_least P f id law [] (Some contents) p = omega arith
 list_least P f id law (x ∷ xs) (Some contents) p = section_grows id 0 (canon_counted f (x ∷ xs)) contents (counted_least P f law contents (x ∷ xs) p)
@@ -275,7 +288,8 @@ lengths : (h a b c d e f g i j k l n : List ℕ) → length (h ++ a ++ b ++ c ++
     ≡ length h + length a + length b + length c + length d + length e + length f + length g + length i + length j + length k + length l + length n
 lengths h a b c d e f g i j k l n = simp length-append refl
 
-pub canon_lengths : (m : Module) → length (canon m) ≡ 8 + length (canon_list 1 canon_func_type m.types) + length (canon_list 2 canon_import m.imports) + length (canon_list 3 shortest_u32 m.funcs) + length (canon_list 4 canon_table_type m.tables)
+pub canon_lengths : (m : Module)
+    → length (canon m) ≡ 8 + length (canon_list 1 canon_func_type m.types) + length (canon_list 2 canon_import m.imports) + length (canon_list 3 shortest_u32 m.funcs) + length (canon_list 4 canon_table_type m.tables)
     + length (canon_list 5 canon_limits m.mems) + length (canon_list 6 canon_global m.globals) + length (canon_list 7 canon_export m.exports) + length (canon_start m.start) + length (canon_list 9 canon_elem m.elems)
     + length (canon_list 10 canon_entry m.bodies) + length (canon_list 11 canon_segment m.segments) + length (canon_names m.names)
 canon_lengths m =

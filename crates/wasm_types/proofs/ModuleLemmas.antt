@@ -35,11 +35,13 @@ one_frames text (f ∷ fs) (g ∷ gs) p q =
 
 -- ---- the parts of a module
 
-pub one_list : {A : Type 0} (P : List ℕ → List A → Type 0) → IsOnce P → (contents : Option (List ℕ)) (xs ys : List A) → ListIs P xs contents → ListIs P ys contents → xs ≡ ys
+pub one_list : {A : Type 0} (P : List ℕ → List A → Type 0) → IsOnce P → (contents : Option (List ℕ)) (xs ys : List A) → ListIs P xs contents
+    → ListIs P ys contents → xs ≡ ys
 one_list P once None xs ys p q = p ∙ sym q
 one_list P once (Some text) xs ys p q = whole_is P once text xs ys p q
 
-pub one_option : {A : Type 0} (P : List ℕ → A → Type 0) → IsOnce P → (contents : Option (List ℕ)) (v w : Option A) → OptionIs P v contents → OptionIs P w contents → v ≡ w
+pub one_option : {A : Type 0} (P : List ℕ → A → Type 0) → IsOnce P → (contents : Option (List ℕ)) (v w : Option A) → OptionIs P v contents
+    → OptionIs P w contents → v ≡ w
 one_option P once None v w p q = p ∙ sym q
 one_option P once (Some text) None w p q = absurd p
 one_option P once (Some text) (Some v) None p q = absurd q

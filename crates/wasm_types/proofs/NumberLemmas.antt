@@ -21,7 +21,8 @@ limit_of-large : (more : ℕ) → 16 ≤ limit_of more
 limit_of-large zero = omega arith
 limit_of-large (suc more) = omega (arith, limit_of-large more)
 
-more_spelled : (limit b n high : ℕ) (text : List ℕ) → 128 ≤ b → b < 256 → 128 < limit → n + 128 ≡ b + 128 * high → SpellsUnsigned (limit / 128) text high → SpellsUnsigned limit (b ∷ text) n
+more_spelled : (limit b n high : ℕ) (text : List ℕ) → 128 ≤ b → b < 256 → 128 < limit → n + 128 ≡ b + 128 * high
+    → SpellsUnsigned (limit / 128) text high → SpellsUnsigned limit (b ∷ text) n
 more_spelled limit b n high [] le lt room is rest = absurd rest
 more_spelled limit b n high (c ∷ cs) le lt room is rest = (le, lt, room, high, is, rest)
 
@@ -100,11 +101,13 @@ pub half_of-some : (base more : ℕ) → 0 < base → base ≤ half_of base more
 half_of-some base zero some = omega arith
 half_of-some base (suc more) some = omega (arith, half_of-some base more some)
 
-signed_more : (half b n high : ℕ) (text : List ℕ) → 128 ≤ b → b < 256 → 64 < half → n + 128 ≡ b + 128 * high → SpellsSigned (half / 128) text high → SpellsSigned half (b ∷ text) n
+signed_more : (half b n high : ℕ) (text : List ℕ) → 128 ≤ b → b < 256 → 64 < half → n + 128 ≡ b + 128 * high → SpellsSigned (half / 128) text high
+    → SpellsSigned half (b ∷ text) n
 signed_more half b n high [] le lt room is rest = absurd rest
 signed_more half b n high (c ∷ cs) le lt room is rest = (le, lt, room, high, is, rest)
 
-pub signed_spells : (base more n : ℕ) → 0 < base → base ≤ 64 → n < 2 * half_of base more → SpellsSigned (half_of base more) (shortest_signed more (half_of base more) n) n
+pub signed_spells : (base more n : ℕ) → 0 < base → base ≤ 64 → n < 2 * half_of base more
+    → SpellsSigned (half_of base more) (shortest_signed more (half_of base more) n) n
 unfolding shortest_signed
 signed_spells base zero n some few lt =
     elim (cases_lt n (min 64 base)) [
@@ -136,7 +139,8 @@ unfolding shortest_signed
 signed_last zero half n big ends = let h : min 64 half ≤ n = omega arith in rw (le-ltb n (min 64 half) h) refl
 signed_last (suc more) half n big ends = let h : min 64 half ≤ n = omega arith in rw (le-ltb n (min 64 half) h, le-ltb (n + 64) (2 * half) ends) refl
 
-pub signed_is_least : (base more n : ℕ) (text : List ℕ) → 0 < base → base ≤ 64 → SpellsSigned (half_of base more) text n → length (shortest_signed more (half_of base more) n) ≤ length text
+pub signed_is_least : (base more n : ℕ) (text : List ℕ) → 0 < base → base ≤ 64 → SpellsSigned (half_of base more) text n
+    → length (shortest_signed more (half_of base more) n) ≤ length text
 unfolding shortest_signed
 signed_is_least base more n [] some few spelled = absurd spelled
 signed_is_least base more n (b ∷ []) some few (inl s) = let small : n < min (half_of base more) 64 = omega (arith, s.0, s.1, s.2) in omega (arith, ap length (signed_small more (half_of base more) n small))

@@ -37,7 +37,8 @@ once_both P Q p q a b x y m n s t e =
     let r = once_then P Q a b x y m.0 n.0 m.1 n.1 p (λ c d same u v h. q c d x y m.1 n.1 u v h) s t e in
     (r.0, pair_is m n r.1 r.2)
 
-pub once_each : {A : Type 0} (P : List ℕ → A → Type 0) → IsOnce P → (a b x y : List ℕ) (m n : List A) → length m ≡ length n → Each P a m → Each P b n → a ++ x ≡ b ++ y → (a ≡ b) × (m ≡ n)
+pub once_each : {A : Type 0} (P : List ℕ → A → Type 0) → IsOnce P → (a b x y : List ℕ) (m n : List A) → length m ≡ length n → Each P a m → Each P b n
+    → a ++ x ≡ b ++ y → (a ≡ b) × (m ≡ n)
 once_each P p a b x y [] [] same s t e = (s ∙ sym t, refl)
 once_each P p a b x y [] (l ∷ ls) same s t e = absurd (omega arith)
 once_each P p a b x y (k ∷ ks) [] same s t e = absurd (omega arith)

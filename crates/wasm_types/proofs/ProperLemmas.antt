@@ -166,9 +166,11 @@ later_bytes (Some late) early p q = p
 later_bytes None early p q = q
 
 payload_bytes : (contents : List ℕ) (c : Name × List ℕ) → SpellsCustom contents c → All IsU8 contents → IfSome (named_payload c) (All IsU8)
-payload_bytes contents c p bytes = chosen_bytes (bytes_eq c.0.bytes (codes "name")) c.1 None (subst (All IsU8) p.second (back_bytes contents p.front p.back p.parts bytes)) tt
+payload_bytes contents c p bytes =
+    chosen_bytes (bytes_eq c.0.bytes (codes "name")) c.1 None (subst (All IsU8) p.second (back_bytes contents p.front p.back p.parts bytes)) tt
 
-names_proper : (text : List ℕ) (fs : List (ℕ × List ℕ)) (names : Option (List ℕ)) → Each SpellsFrame text fs → NamesAre fs names → All IsU8 text → IfSome names (All IsU8)
+names_proper : (text : List ℕ) (fs : List (ℕ × List ℕ)) (names : Option (List ℕ)) → Each SpellsFrame text fs → NamesAre fs names → All IsU8 text
+    → IfSome names (All IsU8)
 names_proper text [] names s h bytes = subst (λ (n : Option (List ℕ)). IfSome n (All IsU8)) (sym h) tt
 names_proper text (f ∷ fs) names s h bytes =
     let here = frame_bytes s.front f s.first (front_bytes text s.front s.back s.parts bytes) in
@@ -180,7 +182,8 @@ names_proper text (f ∷ fs) names s h bytes =
 
 -- ---- the module
 
-list_proper : {A : Type 0} (P : List ℕ → A → Type 0) (Q : A → Type 0) → IsProper P Q → (xs : List A) (o : Option (List ℕ)) → ListIs (Counted P) xs o → IfSome o (All IsU8) → All Q xs
+list_proper : {A : Type 0} (P : List ℕ → A → Type 0) (Q : A → Type 0) → IsProper P Q → (xs : List A) (o : Option (List ℕ)) → ListIs (Counted P) xs o
+    → IfSome o (All IsU8) → All Q xs
 list_proper {A} P Q law xs None p bytes = subst (All Q) (sym p) (All-nil Q)
 list_proper P Q law xs (Some contents) p bytes = counted_proper P Q law contents xs p bytes
 

@@ -32,7 +32,8 @@ use Rattle.wasm_types.proofs.Once.{IsOnce, after, once_then, once_both, once_cou
 -- ---- ways to make one relation of another
 
 -- the same text of a value that is seen otherwise
-pub once_seen : {A B : Type 0} (P : List ℕ → B → Type 0) (see : A → B) (back : B → A) → ((v : A) → back (see v) ≡ v) → IsOnce P → IsOnce (λ text (v : A). P text (see v))
+pub once_seen : {A B : Type 0} (P : List ℕ → B → Type 0) (see : A → B) (back : B → A) → ((v : A) → back (see v) ≡ v) → IsOnce P
+    → IsOnce (λ text (v : A). P text (see v))
 once_seen P see back is once a b x y m n p q e = let r = once a b x y (see m) (see n) p q e in (r.0, sym (is m) ∙ ap back r.1 ∙ is n)
 
 pub once_behind : {A : Type 0} (byte : ℕ) (P : List ℕ → A → Type 0) → IsOnce P → IsOnce (λ text v. Behind byte (λ rest. P rest v) text)
@@ -247,7 +248,8 @@ abbrev run_of : ℕ × ValType → LocalRun
 run_of v = record { count = v.0; kind = v.1 }
 
 pub once_run : IsOnce SpellsRun
-once_run = once_seen (Both SpellsU32 SpellsValType) (λ (r : LocalRun). (r.count, r.kind)) run_of (λ r. refl) (once_both SpellsU32 SpellsValType once_u32 once_type)
+once_run =
+    once_seen (Both SpellsU32 SpellsValType) (λ (r : LocalRun). (r.count, r.kind)) run_of (λ r. refl) (once_both SpellsU32 SpellsValType once_u32 once_type)
 
 abbrev body_of : List LocalRun × List Instr → Body
 body_of v = record { locals = v.0; code = v.1 }

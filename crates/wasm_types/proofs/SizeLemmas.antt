@@ -33,7 +33,8 @@ sized_long bytes = omega (arith, length-append (shortest_u32 (length bytes)) byt
 enclosed_long : (op k : ℕ) (inner rest : List ℕ) → 1 + length inner + length rest ≤ length ((op ∷ k ∷ inner ++ 0x0B ∷ []) ++ rest)
 enclosed_long op k inner rest = omega (arith, length-append (op ∷ k ∷ inner ++ 0x0B ∷ []) rest, length-append inner (0x0B ∷ []))
 
-arms_long : (k : ℕ) (first second rest : List ℕ) → 1 + length first + length second + length rest ≤ length ((0x04 ∷ k ∷ first ++ (else_part second ++ 0x0B ∷ [])) ++ rest)
+arms_long : (k : ℕ) (first second rest : List ℕ)
+    → 1 + length first + length second + length rest ≤ length ((0x04 ∷ k ∷ first ++ (else_part second ++ 0x0B ∷ [])) ++ rest)
 arms_long k first second rest =
     omega (arith, else_long second, length-append (0x04 ∷ k ∷ first ++ (else_part second ++ 0x0B ∷ [])) rest, length-append first (else_part second ++ 0x0B ∷ []), length-append (else_part second) (0x0B ∷ []))
 
@@ -42,7 +43,8 @@ code_long done = omega arith
 code_long (one i rest) = omega (arith, code_long rest, length-append (canon_plain i) (canon_code rest))
 code_long (block k inner rest) = omega (arith, code_long inner, code_long rest, enclosed_long 0x02 (kind_byte k) (canon_code inner) (canon_code rest))
 code_long (repeat k inner rest) = omega (arith, code_long inner, code_long rest, enclosed_long 0x03 (kind_byte k) (canon_code inner) (canon_code rest))
-code_long (branch k first second rest) = omega (arith, code_long first, code_long second, code_long rest, arms_long (kind_byte k) (canon_code first) (canon_code second) (canon_code rest))
+code_long (branch k first second rest) =
+    omega (arith, code_long first, code_long second, code_long rest, arms_long (kind_byte k) (canon_code first) (canon_code second) (canon_code rest))
 
 labels_long : (t : Immediates) → length (labels_of t) ≤ length (canon_immediates t)
 labels_long (labels some other) = omega (arith, counted_long shortest_u32 some_u32 some, length-append (canon_counted shortest_u32 some) (shortest_u32 other))
@@ -100,13 +102,15 @@ pub items_long : {A : Type 0} (id : ℕ) (f : A → List ℕ) (xs : List A) → 
 items_long id f [] = omega arith
 items_long id f (x ∷ xs) = omega (arith, length-append (shortest_u32 (length (x ∷ xs))) (canon_each f (x ∷ xs)), section_long id (canon_counted f (x ∷ xs)))
 
-each_within : {A : Type 0} (f : A → List ℕ) (size : A → ℕ) (most : ℕ) → ((x : A) → size x ≤ length (f x)) → (xs : List A) → length (canon_each f xs) ≤ most → All (λ x. size x ≤ most) xs
+each_within : {A : Type 0} (f : A → List ℕ) (size : A → ℕ) (most : ℕ) → ((x : A) → size x ≤ length (f x)) → (xs : List A)
+    → length (canon_each f xs) ≤ most → All (λ x. size x ≤ most) xs
 each_within f size most long [] le = All-nil (λ x. size x ≤ most)
 each_within f size most long (x ∷ xs) le =
     let both = length-append (f x) (canon_each f xs) in
     All-cons (λ x. size x ≤ most) x xs (omega (arith, long x, both, le)) (each_within f size most long xs (omega (arith, both, le)))
 
-list_within : {A : Type 0} (id : ℕ) (f : A → List ℕ) (size : A → ℕ) (most : ℕ) → ((x : A) → size x ≤ length (f x)) → (xs : List A) → length (canon_list id f xs) ≤ most → All (λ x. size x ≤ most) xs
+list_within : {A : Type 0} (id : ℕ) (f : A → List ℕ) (size : A → ℕ) (most : ℕ) → ((x : A) → size x ≤ length (f x)) → (xs : List A)
+    → length (canon_list id f xs) ≤ most → All (λ x. size x ≤ most) xs
 list_within id f size most long xs le = each_within f size most long xs (omega (arith, items_long id f xs, le))
 
 body_labels : (most : ℕ) (b : Body) → length (canon_entry b) ≤ most → LabelsAtMost most (code_of b.code)
@@ -174,7 +178,8 @@ more_labels most more le (branch kind first second rest) h = (more_labels most m
 more_each : {A : Type 0} (P Q : A → Type 0) → ((x : A) → P x → Q x) → (xs : List A) → All P xs → All Q xs
 more_each P Q f xs h = λ k d lt. f (get_or xs k d) (h k d lt)
 
-more_bytes : (most more : ℕ) → most ≤ more → (names : Option (List ℕ)) → IfSome names (λ (bytes : List ℕ). length bytes ≤ most) → IfSome names (λ (bytes : List ℕ). length bytes ≤ more)
+more_bytes : (most more : ℕ) → most ≤ more → (names : Option (List ℕ)) → IfSome names (λ (bytes : List ℕ). length bytes ≤ most)
+    → IfSome names (λ (bytes : List ℕ). length bytes ≤ more)
 more_bytes most more le None h = tt
 more_bytes most more le (Some bytes) h = omega (arith, h)
 

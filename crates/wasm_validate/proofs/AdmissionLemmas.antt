@@ -18,7 +18,8 @@ most_answered_more limit.TableSize = omega arith
 most_answered_more limit.Locals = omega arith
 most_answered_more limit.Positions = omega arith
 
-pub sealed_module : (m : Module) → IsWellFormed m → HasAtMost 0x7FFF_FFFF m → NestsAtMost most_nesting m → ((p : Part) → HasNoFloatIn m p) → WithinLimits most_read m → ((p : Part) → Holds m p) → IsSealed m
+pub sealed_module : (m : Module) → IsWellFormed m → HasAtMost 0x7FFF_FFFF m → NestsAtMost most_nesting m → ((p : Part) → HasNoFloatIn m p)
+    → WithinLimits most_read m → ((p : Part) → Holds m p) → IsSealed m
 sealed_module m well few nesting no_float limits valid =
     record {
       valid = (well, valid);

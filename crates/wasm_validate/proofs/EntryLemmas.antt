@@ -39,10 +39,12 @@ found_within P xs k bad =
 pub entry : {X : Type 0} (all xs : List X) (k : ℕ) (x : X) → all ≡ xs → k < length all → x ≡ get_or all k x → slice_get xs k ≡ Some x
 entry {X} all xs k x e lt is = subst (λ (ys : List X). slice_get ys k ≡ Some x) e (slice_get-get_or all k x lt ∙ ap Some (sym is))
 
-pub one_more : {X : Type 0} (P : X → Type 0) (xs : List X) (k : ℕ) (x : X) → slice_get xs k ≡ Some x → P x → ((j : ℕ) → j < k → Has P xs j) → (j : ℕ) → j < k + 1 → Has P xs j
+pub one_more : {X : Type 0} (P : X → Type 0) (xs : List X) (k : ℕ) (x : X) → slice_get xs k ≡ Some x → P x → ((j : ℕ) → j < k → Has P xs j) → (j : ℕ)
+    → j < k + 1 → Has P xs j
 one_more P xs k x e h before = below_more (Has P xs) k before (from_some P (slice_get xs k) x e h)
 
-pub found_here : {X : Type 0} (P : X → Type 0) (xs : List X) (k : ℕ) (x : X) → slice_get xs k ≡ Some x → (P x → ⊥) → ((j : ℕ) → j < k → Has P xs j) → FindsNumber (Has P xs) (Some k)
+pub found_here : {X : Type 0} (P : X → Type 0) (xs : List X) (k : ℕ) (x : X) → slice_get xs k ≡ Some x → (P x → ⊥) → ((j : ℕ) → j < k → Has P xs j)
+    → FindsNumber (Has P xs) (Some k)
 found_here P xs k x e bad before = (λ h. bad (at_some P (slice_get xs k) x e h), before)
 
 pub none_left : {X : Type 0} (P : X → Type 0) (all xs : List X) (k : ℕ) → all ≡ xs → length all ≤ k → ((j : ℕ) → j < k → Has P xs j) → (j : ℕ) → Has P xs j
@@ -58,7 +60,8 @@ holds_below {X} P xs n k all lt = elim (slice_get_cases xs k).1 [
 ]
 
 -- the entry that a search finds
-pub first_entry : {X : Type 0} (P : X → Type 0) (xs : List X) (k : ℕ) → (k < length xs) × HoldsAt (λ x. P x → ⊥) xs k × AllWithin P xs 0 k → FindsNumber (λ j. IfSome (slice_get xs j) P) (Some k)
+pub first_entry : {X : Type 0} (P : X → Type 0) (xs : List X) (k : ℕ) → (k < length xs) × HoldsAt (λ x. P x → ⊥) xs k × AllWithin P xs 0 k
+    → FindsNumber (λ j. IfSome (slice_get xs j) P) (Some k)
 first_entry P xs k found = (
   λ h. elim (slice_get_cases xs k).1 [
     | inl x ↦ found.1 x.0 (subst P (sym x.3) (rw x.2 at h))
@@ -71,7 +74,8 @@ first_entry P xs k found = (
 abbrev pub HoldsOwn : {X : Type 0} → (X → Type 0) → List X → ℕ → ℕ → Type 0
 HoldsOwn {X} P xs n g = (x : X) → n ≤ g → slice_get xs (g - n) ≡ Some x → P x
 
-pub first_own : {X : Type 0} (P : X → Type 0) (xs : List X) (n k g : ℕ) → g ≡ n + k → (k < length xs) × HoldsAt (λ x. P x → ⊥) xs k × AllWithin P xs 0 k → FindsNumber (HoldsOwn P xs n) (Some g)
+pub first_own : {X : Type 0} (P : X → Type 0) (xs : List X) (n k g : ℕ) → g ≡ n + k
+    → (k < length xs) × HoldsAt (λ x. P x → ⊥) xs k × AllWithin P xs 0 k → FindsNumber (HoldsOwn P xs n) (Some g)
 first_own P xs n k g e found = (
   λ h. elim (slice_get_cases xs k).1 [
     | inl x ↦ found.1 x.0 (subst P (sym x.3) (h x.0 (omega arith) (ap (slice_get xs) (omega arith) ∙ x.2)))
@@ -82,6 +86,7 @@ first_own P xs n k g e found = (
 
 -- ---- own numbers, which begin after the imported ones
 
-pub found_own : (base : ℕ) (H Q : ℕ → Type 0) (r : Option ℕ) → ((f : ℕ) → (base ≤ f → Q (f - base)) → H f) → ((k : ℕ) → H (base + k) → Q k) → FindsNumber Q r → FindsNumber H (option_map (λ k. base + k) r)
+pub found_own : (base : ℕ) (H Q : ℕ → Type 0) (r : Option ℕ) → ((f : ℕ) → (base ≤ f → Q (f - base)) → H f) → ((k : ℕ) → H (base + k) → Q k)
+    → FindsNumber Q r → FindsNumber H (option_map (λ k. base + k) r)
 found_own base H Q None into back h = λ f. into f (λ le. h (f - base))
 found_own base H Q (Some k) into back h = (λ bad. h.0 (back k bad), λ j lt. into j (λ le. h.1 (j - base) (omega arith)))

@@ -20,7 +20,8 @@ integer-onto (If' k m first n second) rest = (λ h. ((h.0, h.1, h.2, tt), h.3), 
 integer-onto _ rest = (λ h. ((h.0, tt), h.1), λ h. (h.0.0, h.1))
 
 -- the instruction at a place, and then those from the next place on
-pub integer-next : (xs : List Instr) (n : ℕ) (x : Instr) → n < length xs → x ≡ get_or xs n x → IsIntegerCode (code_of (drop n xs)) ↔ (IsIntegerCode (onto x done) × IsIntegerCode (code_of (drop (n + 1) xs)))
+pub integer-next : (xs : List Instr) (n : ℕ) (x : Instr) → n < length xs → x ≡ get_or xs n x
+    → IsIntegerCode (code_of (drop n xs)) ↔ (IsIntegerCode (onto x done) × IsIntegerCode (code_of (drop (n + 1) xs)))
 integer-next xs n x lt is = rw (code-next xs n x lt is) (integer-onto x (code_of (drop (n + 1) xs)))
 
 -- an instruction that holds no others, and is no float instruction

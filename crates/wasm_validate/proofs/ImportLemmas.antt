@@ -5,7 +5,8 @@ use Rattle.wasm_types.specs.declared.module.ImportKind.TheVariants as import
 use Rattle.wasm_types.specs.declared.module.Import.{Import}
 use Rattle.wasm_types.specs.Spaces.{func_import, global_import, imported}
 
-length-imported : {A : Type 0} (pick : ImportKind → List A) → ((kind : ImportKind) → length (pick kind) ≤ 1) → (is : List Import) → length (imported pick is) ≤ length is
+length-imported : {A : Type 0} (pick : ImportKind → List A) → ((kind : ImportKind) → length (pick kind) ≤ 1) → (is : List Import)
+    → length (imported pick is) ≤ length is
 length-imported pick one [] = omega arith
 length-imported pick one (i ∷ is) = omega (arith, one i.kind, length-imported pick one is, length-append (pick i.kind) (imported pick is))
 

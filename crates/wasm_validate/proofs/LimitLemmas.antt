@@ -53,13 +53,15 @@ within_more {A} f most all xs i n x same lt is e le h =
 abbrev pub CountsBody : (Body → ℕ) → Module → ℕ → ℕ → Type 0
 CountsBody f m k n = (b : Body) × HasBody m k b × (n ≡ f b)
 
-pub bodies_within : (f : Body → ℕ) (most : ℕ) (m : Module) (all : List Body) (i : ℕ) → all ≡ m.bodies → length all ≤ i → ((j : ℕ) → j < i → IsWithin f most m.bodies j) → (k n : ℕ) → CountsBody f m k n → n ≤ most
+pub bodies_within : (f : Body → ℕ) (most : ℕ) (m : Module) (all : List Body) (i : ℕ) → all ≡ m.bodies → length all ≤ i
+    → ((j : ℕ) → j < i → IsWithin f most m.bodies j) → (k n : ℕ) → CountsBody f m k n → n ≤ most
 bodies_within f most m all i same le h k n c =
     let at = slice_get_within m.bodies (k - import_count m) c.0 c.1.1 in
     let few = ap length same in
     omega (arith, h (k - import_count m) (omega arith) c.0 c.1.1, c.2)
 
-pub first_body : (f : Body → ℕ) (most : ℕ) (m : Module) (all : List Body) (i n at : ℕ) (b : Body) → all ≡ m.bodies → i < length all → b ≡ get_or all i b → n ≡ f b → most < n
+pub first_body : (f : Body → ℕ) (most : ℕ) (m : Module) (all : List Body) (i n at : ℕ) (b : Body) → all ≡ m.bodies → i < length all
+    → b ≡ get_or all i b → n ≡ f b → most < n
     → at ≡ import_count m + i → ((j : ℕ) → j < i → IsWithin f most m.bodies j) → (k : ℕ) × IsFirstAbove (CountsBody f m) most k n × (at ≡ k)
 first_body f most m all i n at b same lt is e over eq h = (
   at,
@@ -84,7 +86,8 @@ each_small most [] e k x e2 = absurd cc
 each_small most (t ∷ ts) e zero x e2 = let s = find_none most t.min (map initial_size ts) e in let eq : t ≡ x = cc in subst (λ (z : Limits). z.min ≤ most) eq s.0
 each_small most (t ∷ ts) e (suc k) x e2 = each_small most ts (find_none most t.min (map initial_size ts) e).1 k x e2
 
-find_some : (most n found : ℕ) (ns : List ℕ) → find (nat_lt most) (n ∷ ns) ≡ Some found → ((most < n) × (n ≡ found)) ⊎ ((n ≤ most) × (find (nat_lt most) ns ≡ Some found))
+find_some : (most n found : ℕ) (ns : List ℕ) → find (nat_lt most) (n ∷ ns) ≡ Some found
+    → ((most < n) × (n ≡ found)) ⊎ ((n ≤ most) × (find (nat_lt most) ns ≡ Some found))
 find_some most n found ns e = elim (cases_lt most n) [
   | inl h ↦ inl (h, grind (arith, nat_tests))
   | inr h ↦ inr (h, grind (arith, nat_tests))
@@ -93,20 +96,24 @@ find_some most n found ns e = elim (cases_lt most n) [
 abbrev pub CountsSize : List Limits → ℕ → ℕ → Type 0
 CountsSize ts k n = (l : Limits) × (slice_get ts k ≡ Some l) × (n ≡ l.min)
 
-earlier_large : (most : ℕ) (t : Limits) (ts : List Limits) (k : ℕ) → t.min ≤ most → ((j c : ℕ) → j < k → CountsSize ts j c → c ≤ most) → (j c : ℕ) → j < suc k → CountsSize (t ∷ ts) j c → c ≤ most
+earlier_large : (most : ℕ) (t : Limits) (ts : List Limits) (k : ℕ) → t.min ≤ most → ((j c : ℕ) → j < k → CountsSize ts j c → c ≤ most) → (j c : ℕ)
+    → j < suc k → CountsSize (t ∷ ts) j c → c ≤ most
 earlier_large most t ts k le h zero c lt counts = let eq : t ≡ counts.0 = let e = counts.1 in cc in omega (arith, ap (λ (l : Limits). l.min) eq, counts.2)
 earlier_large most t ts k le h (suc j) c lt counts = h j c (omega arith) counts
 
-pub first_large : (most found : ℕ) (ts : List Limits) → find (nat_lt most) (map initial_size ts) ≡ Some found → (k : ℕ) × IsFirstAbove (CountsSize ts) most k found
+pub first_large : (most found : ℕ) (ts : List Limits) → find (nat_lt most) (map initial_size ts) ≡ Some found
+    → (k : ℕ) × IsFirstAbove (CountsSize ts) most k found
 first_large most found [] e = absurd cc
 first_large most found (t ∷ ts) e = elim (find_some most t.min found (map initial_size ts) e) [
   | inl h ↦ (0, record { counted = (t, refl, sym h.1); over = (let same = h.1 in omega (arith, h.0)); earlier = λ j c lt counts. absurd (omega (arith, lt)) })
   | inr h ↦ (let r = first_large most found ts h.1 in (suc r.0, record { counted = r.1.counted; over = r.1.over; earlier = earlier_large most t ts r.0 h.0 r.1.earlier }))
 ]
 
-pub table_found : (m : Module) (large : Option ℕ) (found : Option Over) (Told : ℕ → Over → Type 0) → ((n : ℕ) (over : Over) → Told n over → over ≡ record { which = limit.TableSize; at = 0; count = n })
+pub table_found : (m : Module) (large : Option ℕ) (found : Option Over) (Told : ℕ → Over → Type 0)
+    → ((n : ℕ) (over : Over) → Told n over → over ≡ record { which = limit.TableSize; at = 0; count = n })
     → large ≡ find (nat_lt (most_read limit.TableSize)) (map initial_size (tables_of m)) → MatchOption large (found ≡ None) (λ n. IsSomeAnd found (Told n)) → FindsKind m limit.TableSize found
-table_found m None found Told tells e k = subst (FindsKind m limit.TableSize) (sym k) (λ k n counts. omega (arith, each_small 1000000 (tables_of m) (sym e) k counts.0 counts.1, counts.2))
+table_found m None found Told tells e k =
+    subst (FindsKind m limit.TableSize) (sym k) (λ k n counts. omega (arith, each_small 1000000 (tables_of m) (sym e) k counts.0 counts.1, counts.2))
 table_found m (Some n) None Told tells e k = absurd k
 table_found m (Some n) (Some over) Told tells e k =
     let is = tells n over k in
@@ -134,7 +141,8 @@ same_kind limit.Positions limit.Positions e = refl
 same_kind _ _ e = absurd (omega (arith, e))
 
 -- one kind more, which is tested only where nothing was found before
-one_kind : (m : Module) (which : LimitKind) (found : Option Over) → WithinBefore m (limit_order which) → FindsKind m which found → FindsBefore m (limit_order which + 1) found
+one_kind : (m : Module) (which : LimitKind) (found : Option Over) → WithinBefore m (limit_order which) → FindsKind m which found
+    → FindsBefore m (limit_order which + 1) found
 one_kind m which None h k = λ w lt. elim (cases_lt (limit_order w) (limit_order which)) [
   | inl less ↦ h w less
   | inr le ↦ subst (WithinKind m) (same_kind which w (omega arith)) k
@@ -150,7 +158,8 @@ one_kind m which (Some over) h k = (
   subst (λ (w : LimitKind). over.at ≡ told_number w k.1.0) (sym k.0) k.1.2,
 )
 
-pub one_kind_more : (m : Module) (which : LimitKind) (before found : Option Over) (Told : Type 0) → (Told → FindsKind m which found) → FindsBefore m (limit_order which) before
+pub one_kind_more : (m : Module) (which : LimitKind) (before found : Option Over) (Told : Type 0) → (Told → FindsKind m which found)
+    → FindsBefore m (limit_order which) before
     → MatchOption before Told (λ over. found ≡ Some over) → FindsBefore m (limit_order which + 1) found
 one_kind_more m which None found Told tells h k = one_kind m which found h (tells k)
 one_kind_more m which (Some over) found Told tells h k = subst (FindsBefore m (limit_order which + 1)) (sym k) h

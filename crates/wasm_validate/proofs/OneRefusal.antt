@@ -62,7 +62,8 @@ same_kind m v w j k n c a b = elim (cases_order (limit_order v) (limit_order w))
 ]
 
 -- what is told of two first numbers over their limits
-same_limit : (m : Module) (v w : LimitKind) (at here n c j k : ℕ) → IsFirstOver m v j n → IsFirstOver m w k c → at ≡ told_number v j → here ≡ told_number w k → end.Limit v at n ≡ end.Limit w here c
+same_limit : (m : Module) (v w : LimitKind) (at here n c j k : ℕ) → IsFirstOver m v j n → IsFirstOver m w k c → at ≡ told_number v j
+    → here ≡ told_number w k → end.Limit v at n ≡ end.Limit w here c
 same_limit m v w at here n c j k a b p q =
     let kind = same_kind m v w j k n c a b in
     let numbers = same_number m w j k n c (subst (λ (z : LimitKind). IsFirstOver m z j n) kind a) b in

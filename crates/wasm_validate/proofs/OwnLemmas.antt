@@ -16,14 +16,16 @@ use Rattle.wasm_validate.proofs.EntryLemmas.{if_some, at_some, Has, found_own}
 past : {X : Type 0} (xs : List X) (base k : ℕ) (x : X) → slice_get xs k ≡ Some x → slice_get xs (base + k - base) ≡ Some x
 past xs base k x e = subst (λ (n : ℕ). slice_get xs n ≡ Some x) (omega arith) e
 
-pub own_func_type : (m : Module) (base : ℕ) (r : Option ℕ) → base ≡ import_count m → FindsNumber (Has (λ type. type < length m.types) m.funcs) r → FindsNumber (λ f. Holds m (part.FuncTypeAt f)) (option_map (λ k. base + k) r)
+pub own_func_type : (m : Module) (base : ℕ) (r : Option ℕ) → base ≡ import_count m → FindsNumber (Has (λ type. type < length m.types) m.funcs) r
+    → FindsNumber (λ f. Holds m (part.FuncTypeAt f)) (option_map (λ k. base + k) r)
 own_func_type m base r e h =
     subst (λ (n : ℕ). FindsNumber (λ f. Holds m (part.FuncTypeAt f)) (option_map (λ k. n + k) r)) (sym e)
     (found_own (import_count m) (λ f. Holds m (part.FuncTypeAt f)) (Has (λ type. type < length m.types) m.funcs) r
     (λ f known type own. at_some (λ (t : ℕ). t < length m.types) (slice_get m.funcs (f - import_count m)) type own.1 (known own.0))
     (λ k known. if_some (λ (t : ℕ). t < length m.types) (slice_get m.funcs k) (λ type is. known type (let le : import_count m ≤ import_count m + k = omega arith in le, past m.funcs (import_count m) k type is))) h)
 
-pub own_global : (m : Module) (base : ℕ) (r : Option ℕ) → base ≡ length (imported global_import m.imports) → FindsNumber (Has (GlobalHolds m) m.globals) r → FindsNumber (λ g. Holds m (part.GlobalAt g)) (option_map (λ k. base + k) r)
+pub own_global : (m : Module) (base : ℕ) (r : Option ℕ) → base ≡ length (imported global_import m.imports)
+    → FindsNumber (Has (GlobalHolds m) m.globals) r → FindsNumber (λ g. Holds m (part.GlobalAt g)) (option_map (λ k. base + k) r)
 own_global m base r e h =
     let n = length (imported global_import m.imports) in
     subst (λ (b : ℕ). FindsNumber (λ g. Holds m (part.GlobalAt g)) (option_map (λ k. b + k) r)) (sym e)
@@ -45,7 +47,8 @@ after (x ∷ xs) ys (suc n) h = after xs ys n (omega arith) ∙ ap (slice_get ys
 own_type : (m : Module) (f : ℕ) → import_count m ≤ f → type_of_func m f ≡ type_numbered m.types (slice_get m.funcs (f - import_count m))
 own_type m f le = ap (type_numbered m.types) (after (imported func_import m.imports) m.funcs f le)
 
-pub own_func : (m : Module) (base : ℕ) (r : Option ℕ) → base ≡ import_count m → FindsNumber (OwnBody m) r → FindsNumber (λ f. Holds m (part.FuncAt f)) (option_map (λ k. base + k) r)
+pub own_func : (m : Module) (base : ℕ) (r : Option ℕ) → base ≡ import_count m → FindsNumber (OwnBody m) r
+    → FindsNumber (λ f. Holds m (part.FuncAt f)) (option_map (λ k. base + k) r)
 own_func m base r e h =
     let n = import_count m in
     subst (λ (b : ℕ). FindsNumber (λ f. Holds m (part.FuncAt f)) (option_map (λ k. b + k) r)) (sym e)
@@ -54,7 +57,8 @@ own_func m base r e h =
     (λ k known F b is there. let le : import_count m ≤ n + k = omega arith in
     known F b (own_type m (n + k) le ∙ ap (λ (j : ℕ). type_numbered m.types (slice_get m.funcs j)) (omega arith) ∙ is) (le, past m.bodies n k b there)) h)
 
-pub body_valid : (m : Module) (k : ℕ) (b : Body) → slice_get m.bodies k ≡ Some b → ((F : FuncType) → type_numbered m.types (slice_get m.funcs k) ≡ Some F → IsValidBody m F b) → OwnBody m k
+pub body_valid : (m : Module) (k : ℕ) (b : Body) → slice_get m.bodies k ≡ Some b
+    → ((F : FuncType) → type_numbered m.types (slice_get m.funcs k) ≡ Some F → IsValidBody m F b) → OwnBody m k
 body_valid m k b here valid F other is there =
     let same : Some b ≡ Some other = sym here ∙ there in let eq : b ≡ other = cc in subst (IsValidBody m F) eq (valid F is)
 

@@ -78,7 +78,8 @@ pub record IsSingle (order : Part → ℕ) (n : ℕ) (one : Part) : Type 0 where
 next : (P : Part → Type 0) (order : Part → ℕ) (n : ℕ) → UpTo P order n → ((p : Part) → order p ≡ n → P p) → UpTo P order (n + 1)
 next P order n earlier here p lt = elim (cases_lt (order p) n) [ inl less ↦ earlier p less | inr more ↦ here p (omega arith) ]
 
-first : (P : Part → Type 0) (order : Part → ℕ) (n : ℕ) (p : Part) → order p ≡ n → UpTo P order n → (P p → ⊥) → ((q : Part) → order q ≡ n → part_number q < part_number p → P q) → IsFirstWithout P order p
+first : (P : Part → Type 0) (order : Part → ℕ) (n : ℕ) (p : Part) → order p ≡ n → UpTo P order n → (P p → ⊥)
+    → ((q : Part) → order q ≡ n → part_number q < part_number p → P q) → IsFirstWithout P order p
 first P order n p e earlier bad here = (
   bad,
   λ q before. elim before [
@@ -87,24 +88,29 @@ first P order n p e earlier bad here = (
   ],
 )
 
-pub first_numbered : (P : Part → Type 0) (order : Part → ℕ) (n : ℕ) (at : ℕ → Part) (k : ℕ) → IsNumbered order n at → UpTo P order n → FindsNumber (λ j. P (at j)) (Some k) → IsFirstWithout P order (at k)
+pub first_numbered : (P : Part → Type 0) (order : Part → ℕ) (n : ℕ) (at : ℕ → Part) (k : ℕ) → IsNumbered order n at → UpTo P order n
+    → FindsNumber (λ j. P (at j)) (Some k) → IsFirstWithout P order (at k)
 first_numbered P order n at k kind earlier h =
     first P order n (at k) (kind.orders k) earlier h.0 (λ q e lt. subst P (kind.all q e) (h.1 (part_number q) (let number = kind.numbers k in omega arith)))
 
-pub past_numbered : (P : Part → Type 0) (order : Part → ℕ) (n : ℕ) (at : ℕ → Part) → IsNumbered order n at → UpTo P order n → FindsNumber (λ j. P (at j)) None → UpTo P order (n + 1)
+pub past_numbered : (P : Part → Type 0) (order : Part → ℕ) (n : ℕ) (at : ℕ → Part) → IsNumbered order n at → UpTo P order n
+    → FindsNumber (λ j. P (at j)) None → UpTo P order (n + 1)
 past_numbered P order n at kind earlier h = next P order n earlier (λ p e. subst P (kind.all p e) (h (part_number p)))
 
-pub first_single : (P : Part → Type 0) (order : Part → ℕ) (n : ℕ) (one : Part) → IsSingle order n one → UpTo P order n → (P one → ⊥) → IsFirstWithout P order one
+pub first_single : (P : Part → Type 0) (order : Part → ℕ) (n : ℕ) (one : Part) → IsSingle order n one → UpTo P order n → (P one → ⊥)
+    → IsFirstWithout P order one
 first_single P order n one kind earlier bad = first P order n one kind.orders earlier bad (λ q e lt. absurd (let number = kind.number in omega arith))
 
 pub past_single : (P : Part → Type 0) (order : Part → ℕ) (n : ℕ) (one : Part) → IsSingle order n one → UpTo P order n → P one → UpTo P order (n + 1)
 past_single P order n one kind earlier h = next P order n earlier (λ p e. subst P (kind.all p e) h)
 
 -- a kind with numbers, and one without, by an order that tells the kinds apart
-pub numbered : (order : Part → ℕ) (at : ℕ → ℕ → Part) (n : ℕ) → TellsApart order at → ((k : ℕ) → order (at n k) ≡ n) → ((k : ℕ) → part_number (at n k) ≡ k) → IsNumbered order n (at n)
+pub numbered : (order : Part → ℕ) (at : ℕ → ℕ → Part) (n : ℕ) → TellsApart order at → ((k : ℕ) → order (at n k) ≡ n)
+    → ((k : ℕ) → part_number (at n k) ≡ k) → IsNumbered order n (at n)
 numbered order at n apart orders numbers = record { orders = orders; numbers = numbers; all = λ p e. ap (λ o. at o (part_number p)) (sym e) ∙ apart.back p }
 
-single : (order : Part → ℕ) (at : ℕ → ℕ → Part) (n : ℕ) (one : Part) → TellsApart order at → order one ≡ n → part_number one ≡ 0 → ((k : ℕ) → at n k ≡ one) → IsSingle order n one
+single : (order : Part → ℕ) (at : ℕ → ℕ → Part) (n : ℕ) (one : Part) → TellsApart order at → order one ≡ n → part_number one ≡ 0
+    → ((k : ℕ) → at n k ≡ one) → IsSingle order n one
 single order at n one apart orders number same = record { orders = orders; number = number; all = λ p e. sym (same (part_number p)) ∙ ap (λ o. at o (part_number p)) (sym e) ∙ apart.back p }
 
 -- ---- the kinds in the order in which validity is tested
@@ -162,12 +168,14 @@ all_parts P h p = h p (last p)
 -- ---- the types, as bodies are tested with them
 
 pub few_results : (m : Module) (n : ℕ) → 0 < n → UpTo (Holds m) valid_order n → FewResults m
-few_results m n some earlier k d lt = at_some (λ (t : FuncType). length t.results ≤ 1) (slice_get m.types k) _ (slice_get-get_or m.types k d lt) (earlier (part.TypeAt k) (omega arith))
+few_results m n some earlier k d lt =
+    at_some (λ (t : FuncType). length t.results ≤ 1) (slice_get m.types k) _ (slice_get-get_or m.types k d lt) (earlier (part.TypeAt k) (omega arith))
 
 -- ---- the first part is one
 
 -- two parts neither of which comes before the other
-pub one_first : (P : Part → Type 0) (order : Part → ℕ) (at : ℕ → ℕ → Part) (p q : Part) → TellsApart order at → IsFirstWithout P order p → IsFirstWithout P order q → p ≡ q
+pub one_first : (P : Part → Type 0) (order : Part → ℕ) (at : ℕ → ℕ → Part) (p q : Part) → TellsApart order at → IsFirstWithout P order p
+    → IsFirstWithout P order q → p ≡ q
 one_first P order at p q apart h k = elim (cases_order (order p) (order q)) [
   | inl e ↦ elim (cases_order (part_number p) (part_number q)) [
     | inl f ↦ sym (apart.back p) ∙ ap (λ o. at o (part_number p)) e ∙ ap (at (order q)) f ∙ apart.back q

@@ -52,13 +52,16 @@ write_instr-write_plain-requires t c =
     record { proper = plain_proper c.args.instr.now plain c.requires.proper; short = plain_short c.args.instr.now plain c.requires.short }
 
 pub write_instr-returns-in-Block : goal.write_instr-returns-in-Block
-write_instr-returns-in-Block t c = finish c.write_enclosed.result _ _ _ _ (block_text c.args.instr.now _ _ _ c.in-Block.is c.as_slice.ensures) c.write_enclosed.ensures
+write_instr-returns-in-Block t c =
+    finish c.write_enclosed.result _ _ _ _ (block_text c.args.instr.now _ _ _ c.in-Block.is c.as_slice.ensures) c.write_enclosed.ensures
 
 pub write_instr-returns-in-Loop : goal.write_instr-returns-in-Loop
-write_instr-returns-in-Loop t c = finish c.write_enclosed-in-Loop.result _ _ _ _ (loop_text c.args.instr.now _ _ _ c.in-Loop.is c.as_slice-in-Loop.ensures) c.write_enclosed-in-Loop.ensures
+write_instr-returns-in-Loop t c =
+    finish c.write_enclosed-in-Loop.result _ _ _ _ (loop_text c.args.instr.now _ _ _ c.in-Loop.is c.as_slice-in-Loop.ensures) c.write_enclosed-in-Loop.ensures
 
 pub write_instr-returns-in-If : goal.write_instr-returns-in-If
-write_instr-returns-in-If t c = finish c.write_if.result _ _ _ _ (if_text c.args.instr.now _ _ _ _ _ c.in-If.is c.as_slice-in-If.ensures c.as_slice-in-If-2.ensures) c.write_if.ensures
+write_instr-returns-in-If t c =
+    finish c.write_if.result _ _ _ _ (if_text c.args.instr.now _ _ _ _ _ c.in-If.is c.as_slice-in-If.ensures c.as_slice-in-If-2.ensures) c.write_if.ensures
 
 pub write_instr-returns-in_default : goal.write_instr-returns-in_default
 write_instr-returns-in_default t c =

@@ -9,7 +9,8 @@ use Rattle.wasm_validate.proofs.ImportLemmas.{length-imported_globals}
 use Rattle.wasm_validate.proofs.floats.float_global.Goals as goal
 
 pub overflow_add-result : goal.overflow_add-result
-overflow_add-result c = omega (arith, length-imported_globals c.args.m.now.imports, c.in_ok-at.ensures.bound, ap (λ (xs : List _). length xs) c.as_slice.ensures)
+overflow_add-result c =
+    omega (arith, length-imported_globals c.args.m.now.imports, c.in_ok-at.ensures.bound, ap (λ (xs : List _). length xs) c.as_slice.ensures)
 
 pub returns : goal.returns
 returns c =

@@ -17,4 +17,5 @@ loop-k-preserved c =
     c.loop-k-test.true c.body-item.is (c.declared_locals-count.ensures ∙ ap local_count c.as_slice.ensures) c.if-count-gt-MOST_LOCALS.false c.loop-k.invariant
 
 pub returns : goal.returns
-returns c = bodies_within declared 8192 c.args.m.now c.as_slice-body-items.result.now c.loop-k.k c.as_slice-body-items.ensures c.loop-k-test.false c.loop-k.invariant
+returns c =
+    bodies_within declared 8192 c.args.m.now c.as_slice-body-items.result.now c.loop-k.k c.as_slice-body-items.ensures c.loop-k-test.false c.loop-k.invariant

@@ -5,7 +5,8 @@ use Rattle.wasm_validate.proofs.PartLemmas.{none_yet, first_numbered, past_numbe
 use Rattle.wasm_validate.proofs.parts.first_declaration.Goals as goal
 
 pub returns-in-Some : goal.returns-in-Some
-returns-in-Some c = first_numbered (Holds c.args.m.now) valid_order 0 part.TypeAt c.in-Some.k types (none_yet (Holds c.args.m.now) valid_order) c.in-Some.ensures
+returns-in-Some c =
+    first_numbered (Holds c.args.m.now) valid_order 0 part.TypeAt c.in-Some.k types (none_yet (Holds c.args.m.now) valid_order) c.in-Some.ensures
 
 pub returns-in-Some-first_import : goal.returns-in-Some-first_import
 returns-in-Some-first_import c =

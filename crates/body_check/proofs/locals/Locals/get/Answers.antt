@@ -14,7 +14,8 @@ use Rattle.body_check.proofs.locals.Locals.get.Goals as goal
 -- what was found, in the list that callers see
 told : (seen : List ValType) (es ds : List RunEnd) (i x : ℕ) (found : Option RunEnd) → types_from 0 es ≡ seen → ds ≡ es
     → slice_get (types_from 0 ds) x ≡ option_map (λ (e : RunEnd). e.kind) (slice_get ds i) → slice_get ds i ≡ found → option_map (λ (e : RunEnd). e.kind) found ≡ slice_get seen x
-told seen es ds i x found view same h is = sym (ap (option_map (λ (e : RunEnd). e.kind)) is) ∙ sym h ∙ ap (λ z. slice_get (types_from 0 z) x) same ∙ ap (λ z. slice_get z x) view
+told seen es ds i x found view same h is =
+    sym (ap (option_map (λ (e : RunEnd). e.kind)) is) ∙ sym h ∙ ap (λ z. slice_get (types_from 0 z) x) same ∙ ap (λ z. slice_get z x) view
 
 pub returns-in-Some : goal.returns-in-Some
 returns-in-Some c =
