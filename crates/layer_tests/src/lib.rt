@@ -10,3 +10,5 @@ mod modules;
 mod numbers;
 #[cfg(test)]
 mod streams;
+#[cfg(test)]
+mod wording;

@@ -1,5 +1,6 @@
 -- The texts that the program prints (docs/COMMANDS.md), byte by byte.
 use Rattle.std.specs.Prelude.{ℕ, List, [], ◌∷◌, ◌++◌, codes, decimal}
+use Rattle.wasm_types.specs.declared.limits.TheConstants.{MOST_BYTES, MOST_NESTING}
 use Rattle.wasm_types.specs.declared.place.Part.{Part}
 use Rattle.wasm_types.specs.declared.place.Part.TheVariants as part
 use Rattle.wasm_types.specs.declared.place.LimitKind.{LimitKind}
@@ -43,11 +44,11 @@ limit_texts limit.Positions at count = codes "function " ∷ decimal at ∷ code
 
 -- why a module is refused
 abbrev pub module_texts : ModuleRefusal → List (List ℕ)
-module_texts of_module.TooLong = codes "longer than 8388608 bytes" ∷ []
+module_texts of_module.TooLong = codes "longer than " ∷ decimal MOST_BYTES ∷ codes " bytes" ∷ []
 module_texts of_module.NoHeader = codes "no module header" ∷ []
 module_texts (of_module.NoFrame k) = codes "section " ∷ decimal k ∷ codes " has no frame" ∷ []
 module_texts (of_module.DoesNotRead k id) = codes "section " ∷ decimal k ∷ codes " (id " ∷ decimal id ∷ codes ") does not read" ∷ []
-module_texts (of_module.TooDeep id entry) = codes "nesting over 1024 in section id " ∷ decimal id ∷ codes " entry " ∷ decimal entry ∷ []
+module_texts (of_module.TooDeep id entry) = codes "nesting over " ∷ decimal MOST_NESTING ∷ codes " in section id " ∷ decimal id ∷ codes " entry " ∷ decimal entry ∷ []
 module_texts of_module.Counts = codes "function and code sections differ in count" ∷ []
 module_texts (of_module.Float p) = codes "float type or instruction in " ∷ part_text p ∷ []
 module_texts (of_module.Limit which at count) = codes "limit: " ∷ limit_texts which at count

@@ -2,8 +2,6 @@
 #![tactic(auto)]
 
 mod refusal;
-#[cfg(test)]
-mod tests;
 mod text;
 
 pub use refusal::{ModuleRefusal, QueryRefusal, Refusal};

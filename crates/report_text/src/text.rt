@@ -6,7 +6,7 @@ ghost use Rattle.report_text.specs.Texts.{limit_texts, line_of, module_texts, pa
 
 use crate::refusal::{ModuleRefusal, QueryRefusal, Refusal};
 use std::alloc::{AllocError, Global};
-use wasm_types::{LimitKind, NoMemory, Part};
+use wasm_types::{LimitKind, MOST_BYTES, MOST_NESTING, NoMemory, Part};
 
 /// The name of a part.
 fn part_name(alloc: Global, part: Part) -> Result<String, AllocError>
@@ -46,14 +46,14 @@ fn module_end(alloc: Global, cause: ModuleRefusal) -> Result<String, AllocError>
     ensures { IfOk result (λ text. string_bytes text ≡ line_of (module_texts cause)) }
 {
     match cause {
-        ModuleRefusal::TooLong => format!(in alloc; "longer than 8388608 bytes\n"),
+        ModuleRefusal::TooLong => format!(in alloc; "longer than {MOST_BYTES} bytes\n"),
         ModuleRefusal::NoHeader => format!(in alloc; "no module header\n"),
         ModuleRefusal::NoFrame { k } => format!(in alloc; "section {k} has no frame\n"),
         ModuleRefusal::DoesNotRead { k, id } => {
             format!(in alloc; "section {k} (id {id}) does not read\n")
         }
         ModuleRefusal::TooDeep { id, entry } => {
-            format!(in alloc; "nesting over 1024 in section id {id} entry {entry}\n")
+            format!(in alloc; "nesting over {MOST_NESTING} in section id {id} entry {entry}\n")
         }
         ModuleRefusal::Counts => {
             format!(in alloc; "function and code sections differ in count\n")

@@ -1,6 +1,6 @@
 //! The wording of each kind of line, with numbers of its own.
 
-use super::*;
+use report_text::{ModuleRefusal, QueryRefusal, Refusal, refusal_text, slice_text, valid_text};
 use std::test::Fail;
 use wasm_types::{LimitKind, Part};
 
