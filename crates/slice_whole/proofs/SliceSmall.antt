@@ -1,8 +1,7 @@
 -- The sliced module of a flat module has the types and instructions of flat modules alone.
-use Rattle.std.proofs.Common.{◌≡◌, ℕ, ◌+◌, List, [], ◌∷◌, ◌++◌, Bool, true, false, nat_eq, length, replicate, refl, sym, ap, ◌∙◌, subst}
+use Rattle.std.proofs.Common.{◌≡◌, ℕ, ◌+◌, [], ◌∷◌, Bool, true, false, nat_eq, length, replicate, refl, sym, ap, ◌∙◌, subst}
 use Rattle.std.specs.Prelude.{All}
 use Rattle.std.proofs.lemmas.List.Elements.{All-nil, All-cons, All-append, All-replicate, All-push}
-use Rattle.wasm_types.specs.declared.module.ValType.{ValType}
 use Rattle.wasm_types.specs.declared.module.Body.{Body}
 use Rattle.wasm_types.specs.declared.module.Module.{Module}
 use Rattle.wasm_types.specs.declared.place.Node.{Node}
@@ -13,7 +12,7 @@ use Rattle.wasm_types.specs.Small.{IsSmallInstr, IsSmallCode, IsSmallType, IsSma
 use Rattle.wasm_types.specs.Actions.{Callees, callees, takes, leaves}
 use Rattle.wasm_types.specs.Nodes.{At, every}
 use Rattle.flow_domain.specs.Flat.{all_i32}
-use Rattle.flow_domain.specs.Sliced.{context_of, result_type, cut_of, appended, IsSliced}
+use Rattle.flow_domain.specs.Sliced.{context_of, result_type, cut_of, IsSliced}
 use Rattle.flow_domain.proofs.FlatCode.{small_from}
 use Rattle.stack_repair.specs.FlatCut.{put_for}
 use Rattle.stack_repair.proofs.Appended.{own_body}

@@ -1,6 +1,5 @@
 -- A command that refuses no module of a kind has an answer of status 0 to each, where the bytes of the source are known and it didn't fail.
-use Rattle.std.proofs.Common.{◌≡◌, ◌≤◌, ◌⊎◌, ℕ, List, [], ◌∷◌, length, sym, ap, ◌∙◌, subst, inl, inr, None, Some, Ok, codes, arith}
-use Rattle.std.specs.Prelude.{All}
+use Rattle.std.proofs.Common.{◌≡◌, ◌≤◌, ◌⊎◌, ℕ, List, [], ◌∷◌, length, sym, ap, ◌∙◌, subst, inl, inr, None, Some, Ok, codes}
 use Rattle.std.specs.declared.option.Option.{Option}
 use Rattle.outside_io.specs.Causes.{Rose}
 use Rattle.wasm_types.specs.declared.module.Module.{Module}

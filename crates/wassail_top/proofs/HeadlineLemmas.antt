@@ -1,25 +1,17 @@
 -- Status 0 of `slice` says what it is to say.
-use Rattle.std.proofs.Common.{◌≡◌, ◌≤◌, ℕ, List, [], length, Option, Some, Err, sym, ap, ◌∙◌, subst, inl, inr, arith}
-use Rattle.std.specs.Prelude.{All}
+use Rattle.std.proofs.Common.{◌≡◌, ◌≤◌, ℕ, List, length, Option, Some, Err, sym, ap, ◌∙◌, subst, inl, inr, arith}
 use Rattle.outside_io.specs.Whole.{TookAll}
-use Rattle.wasm_types.specs.declared.module.GlobalDef.{GlobalDef}
-use Rattle.wasm_types.specs.declared.module.Elem.{Elem}
-use Rattle.wasm_types.specs.declared.module.DataSegment.{DataSegment}
-use Rattle.wasm_types.specs.declared.module.Module.{Module}
-use Rattle.wasm_types.specs.Code.{code_of, nest}
 use Rattle.wasm_types.specs.Canon.{canon}
 use Rattle.wasm_types.specs.Subset.{InSubset, most_nesting}
 use Rattle.wasm_types.proofs.LeastLemmas.{canon_is_least}
 use Rattle.wasm_decode.specs.Decode.{Decodes}
 use Rattle.wasm_validate.specs.Admission as admission
 use Rattle.wassail_top.specs.Answers.{AnswersOrder, AnswersBytes, IsDue, most_bytes, name_of}
-use Rattle.slice_whole.specs.Flat.{IsFlat}
 use Rattle.wassail_top.specs.Headline.{SliceHolds}
 use Rattle.wassail_top.specs.Orders.{Order}
 use Rattle.wassail_top.specs.Orders.Order.{slice}
 use Rattle.wassail_top.specs.Outcome.{GaveAll}
 use Rattle.wassail_top.specs.Refusals.{Answer, why_not_decoded, why_not_admitted, why_not_sliced}
-use Rattle.flow_domain.specs.Sliced.{IsSliced}
 use Rattle.slice_whole.specs.Slices.{Refuses}
 use Rattle.slice_whole.proofs.Follows.{slice_follows}
 use Rattle.wassail_top.specs.Words.{order_of}

@@ -1,24 +1,17 @@
 -- A module has one answer to a slice.
-use Rattle.std.proofs.Common.{◌≡◌, ◌<◌, ℕ, List, Bool, true, false, Some, refl, sym, ap, ◌∙◌, subst, inl, inr, arith}
-use Rattle.std.specs.Prelude.{slice_get}
-use Rattle.std.proofs.Math.Path.{fun_ext}
+use Rattle.std.proofs.Common.{◌≡◌, ◌<◌, ℕ, List, Some, refl, sym, ap, ◌∙◌, inl, inr, arith}
 use Rattle.std.proofs.lemmas.Option.{slice_get_within}
-use Rattle.wasm_types.specs.declared.module.FuncType.{FuncType}
 use Rattle.wasm_types.specs.declared.module.Body.{Body}
 use Rattle.wasm_types.specs.declared.module.Module.{Module}
-use Rattle.wasm_types.specs.Code.{code_of, count, list_of}
-use Rattle.wasm_types.specs.Marked.{unmarked, watched_at}
-use Rattle.wasm_types.specs.Actions.{callees}
+use Rattle.wasm_types.specs.Code.{code_of, count}
 use Rattle.report_text.specs.declared.refusal.Refusal.TheVariants as refusal
 use Rattle.report_text.specs.declared.refusal.QueryRefusal.{QueryRefusal}
 use Rattle.slice_whole.specs.declared.slicing.SliceRefusal.{SliceRefusal}
 use Rattle.slice_whole.specs.declared.slicing.SliceRefusal.TheVariants as cause
 use Rattle.wassail_top.specs.Answers.{IsSlicedAs, AnswersFlat, AnswersSlice, name_of, slice_answer}
 use Rattle.slice_whole.specs.Flat.{IsFlat}
-use Rattle.flow_domain.specs.Kept.{Tells}
-use Rattle.wasm_types.specs.declared.place.Node.{Node}
 use Rattle.wassail_top.specs.Refusals.{Answer, why_not_sliced}
-use Rattle.flow_domain.specs.Sliced.{func_count, KeptAt, cut_of, appended, IsSliced}
+use Rattle.flow_domain.specs.Sliced.{func_count, IsSliced}
 use Rattle.slice_whole.specs.Slices.{HasPositions, Refuses}
 use Rattle.slice_whole.proofs.OneSliced.{one_sliced, sliced_there}
 use Rattle.wassail_top.proofs.FlatAdmitted.{flat_admitted}

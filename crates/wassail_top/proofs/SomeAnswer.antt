@@ -1,6 +1,6 @@
 -- Words that are texts, and the bytes of a source, have an answer.
-use Rattle.std.proofs.Common.{◌≡◌, ◌<◌, ◌≤◌, ◌+◌, ◌⊎◌, ℕ, Bool, true, false, List, [], ◌∷◌, length, take, drop, Option, Some, None, inl, inr, refl, sym, subst, arith}
-use Rattle.std.specs.Prelude.{All, IsUtf8, codes, if◌then◌else◌, nat_le, option_and_then}
+use Rattle.std.proofs.Common.{◌≡◌, ◌<◌, ◌≤◌, ◌+◌, ℕ, Bool, true, false, List, [], ◌∷◌, length, take, drop, Option, Some, None, inl, inr, refl, sym, subst, arith}
+use Rattle.std.specs.Prelude.{All, codes, if◌then◌else◌, nat_le, option_and_then}
 use Rattle.std.specs.Str.{bytes_eq}
 use Rattle.std.proofs.lemmas.Bool.{cases_lt, leb-true}
 use Rattle.std.proofs.lemmas.List.{append-nil, length-take-le, take-append-drop}
@@ -16,7 +16,7 @@ use Rattle.wassail_top.specs.Answers.{IsText, HasAnswer, AnswersOrder, AnswersBy
 use Rattle.wassail_top.specs.Orders.{Order, most_name_bytes}
 use Rattle.wassail_top.specs.Orders.Order.{check, rewrite, slice}
 use Rattle.wassail_top.specs.Refusals.{Answer, refused}
-use Rattle.wassail_top.specs.Words.{alone, number_of, order_named, order_of, two_and_name}
+use Rattle.wassail_top.specs.Words.{alone, number_of, order_of, two_and_name}
 use Rattle.wassail_top.proofs.NotRefuted.{NotRefuted}
 use Rattle.wassail_top.proofs.SomeAdmission.{some_admission}
 use Rattle.wassail_top.proofs.SomeDecoding.{some_decoding}

@@ -1,5 +1,5 @@
 -- Bytes decode, or have a refusal.
-use Rattle.std.proofs.Common.{◌≡◌, ◌≢◌, ◌<◌, ◌≤◌, ◌+◌, ◌⊎◌, max, ℕ, zero, suc, List, [], ◌∷◌, ◌++◌, length, take, drop, Option, Some, None, Ok, Err, inl, inr, refl, sym, ap, ◌∙◌, subst, append_assoc, length-append, length-drop, arith}
+use Rattle.std.proofs.Common.{◌≡◌, ◌<◌, ◌≤◌, ◌+◌, ◌⊎◌, max, ℕ, zero, suc, List, [], ◌∷◌, ◌++◌, length, take, drop, Option, Some, None, Ok, Err, inl, inr, refl, sym, ap, ◌∙◌, subst, append_assoc, length-append, length-drop, arith}
 use Rattle.std.specs.Prelude.{All, slice_get}
 use Rattle.std.proofs.lemmas.Bool.{cases_lt}
 use Rattle.std.proofs.lemmas.List.{append-nil, length-take, length-take-le, take-append-drop}
@@ -9,18 +9,18 @@ use Rattle.report_text.specs.declared.refusal.ModuleRefusal.TheVariants as of_mo
 use Rattle.wasm_types.specs.declared.module.Module.{Module}
 use Rattle.wasm_types.specs.Standing.{Stands}
 use Rattle.wasm_types.specs.Modules.{header, InOrder, Sections}
-use Rattle.wasm_types.specs.Subset.{NestsAtMost, most_nesting}
 use Rattle.wasm_decode.specs.declared.refusal.DecodeEnd.{DecodeEnd}
 use Rattle.wasm_decode.specs.declared.refusal.DecodeEnd.TheVariants as end
 use Rattle.wasm_decode.specs.Depth.{IsShallowGlobal, IsShallowElem, IsShallowBody, IsShallowSegment}
 use Rattle.wasm_decode.specs.Frames.{NextFrame, IsFramed, UnframedAt}
-use Rattle.wasm_decode.specs.Contents.{Contents, custom, types, imports, funcs, tables, mems, globals, exports, start, elems, bodies, segments, SpellsSection, IsSpelled, IsShallowContents, DeepAt, IsShallowSection, FirstUnspelled, HasParts, put, IsPut}
+use Rattle.wasm_decode.specs.Contents.{Contents, custom, types, imports, funcs, tables, mems, globals, exports, start, elems, bodies, segments, IsSpelled, IsShallowContents, DeepAt, IsShallowSection, FirstUnspelled, put, IsPut}
 use Rattle.wasm_decode.specs.Decode.{IsRead, Decodes, first_deep}
-use Rattle.wasm_decode.proofs.EntryLemmas.{get-within, all-get, all-nil, all-snoc}
+use Rattle.std.proofs.lemmas.List.Elements.{All-nil, All-push}
+use Rattle.wasm_decode.proofs.EntryLemmas.{get-within, all-get}
 use Rattle.wasm_decode.proofs.FrameLemmas.{no_sections, sections_more, frame_moves}
 use Rattle.wasm_decode.proofs.StepLemmas.{is_new, read_more, spells_of}
 use Rattle.wassail_top.specs.Refusals.{why_not_decoded}
-use Rattle.wassail_top.proofs.NotRefuted.{NotRefuted, FirstEntry, either, first_entry}
+use Rattle.wassail_top.proofs.NotRefuted.{NotRefuted, either, first_entry}
 
 -- ---- sections
 
@@ -144,7 +144,7 @@ reading gs (f ∷ rest) final deep m ordered all read never = either (IsSpelled 
       let same : (gs ++ f ∷ []) ++ rest ≡ gs ++ f ∷ rest = append_assoc gs (f ∷ []) rest in
       let ordered_so = subst (λ (fs : List (ℕ × List ℕ)). InOrder 0 fs final) (sym same) ordered in
       let read_so = read_more gs f.0 f.1 m p.1 deep p.0 s.0 (is_new 0 final gs f rest ordered) s.1 p.2 read in
-      reading (gs ++ f ∷ []) rest final (first_deep deep f.0 p.0) p.1 ordered_so (all-snoc IsSpelled gs f all s) read_so (λ r. never (subst Reading same r)))
+      reading (gs ++ f ∷ []) rest final (first_deep deep f.0 p.0) p.1 ordered_so (All-push IsSpelled gs f all s) read_so (λ r. never (subst Reading same r)))
   | inr bad ↦ never (unspelled_next gs f rest all bad)
 ])
 
@@ -171,8 +171,8 @@ empty_read : IsRead [] None empty
 unfolding empty
 empty_read = (
   record { types = refl; imports = refl; funcs = refl; tables = refl; mems = refl; globals = refl; exports = refl; start = refl; elems = refl; bodies = refl; segments = refl; names = refl },
-  record { globals = all-nil _; elems = all-nil _; bodies = all-nil _; segments = all-nil _ },
-  all-nil IsShallowSection,
+  record { globals = All-nil _; elems = All-nil _; bodies = All-nil _; segments = All-nil _ },
+  All-nil IsShallowSection,
 )
 
 -- they decode, or a refusal holds
@@ -197,7 +197,7 @@ of_reading bytes fs framed (inr (spelled, deep, m, read)) never = of_read bytes 
 
 of_framing : (bytes : List ℕ) → Framing bytes → NotRefuted (DecodedOrRefused bytes)
 of_framing bytes (inl (fs, framed)) never =
-    reading [] fs framed.final None empty framed.framed.spelled.1 (all-nil IsSpelled) empty_read (λ r. of_reading bytes fs framed r never)
+    reading [] fs framed.final None empty framed.framed.spelled.1 (All-nil IsSpelled) empty_read (λ r. of_reading bytes fs framed r never)
 of_framing bytes (inr (k, bad)) never = never (inr (end.Frame k, of_module.NoFrame k, bad, refl))
 
 long_enough : (bytes : List ℕ) → take 8 bytes ≡ header → 8 ≤ length bytes

@@ -1,26 +1,22 @@
 -- A flat module is sliced, or the slice has a refusal.
-use Rattle.std.proofs.Common.{◌≡◌, ◌<◌, ◌≤◌, ◌⊎◌, ℕ, Bool, List, length, Some, inl, inr, refl, arith}
-use Rattle.std.specs.Prelude.{slice_get, nat_eq}
+use Rattle.std.proofs.Common.{◌≡◌, ◌<◌, ◌≤◌, ◌⊎◌, ℕ, List, length, Some, inl, inr, refl, arith}
+use Rattle.std.specs.Prelude.{slice_get}
 use Rattle.std.proofs.lemmas.Bool.{cases_lt}
 use Rattle.report_text.specs.declared.refusal.Refusal.TheVariants as refusal
 use Rattle.report_text.specs.declared.refusal.QueryRefusal.TheVariants as of_query
 use Rattle.wasm_types.specs.declared.module.Body.{Body}
 use Rattle.wasm_types.specs.declared.module.Module.{Module}
-use Rattle.wasm_types.specs.Code.{code_of, count, list_of}
-use Rattle.wasm_types.specs.Marked.{unmarked, watched_at}
+use Rattle.wasm_types.specs.Code.{code_of, count}
 use Rattle.wasm_types.specs.WellFormed.{ProperName}
-use Rattle.wasm_types.specs.Actions.{callees}
 use Rattle.slice_whole.specs.declared.slicing.SliceRefusal.TheVariants as cause
-use Rattle.wassail_top.specs.Answers.{IsSlicedAs, AnswersFlat, AnswersSlice, name_of, slice_answer}
+use Rattle.wassail_top.specs.Answers.{AnswersFlat, AnswersSlice, name_of, slice_answer}
 use Rattle.slice_whole.specs.Flat.{IsFlat}
-use Rattle.flow_domain.specs.Kept.{Tells}
-use Rattle.wasm_types.specs.declared.place.Node.{Node}
 use Rattle.wassail_top.specs.Orders.{most_name_bytes}
 use Rattle.wassail_top.specs.Refusals.{Answer, refused}
-use Rattle.flow_domain.specs.Sliced.{func_count, KeptAt, cut_of, appended, IsSliced}
+use Rattle.flow_domain.specs.Sliced.{func_count}
 use Rattle.stack_repair.specs.Law.{HasExport}
 use Rattle.slice_whole.proofs.OneSliced.{the_slice}
-use Rattle.slice_whole.proofs.FlatSlice.{OwnFunc, own_func, own_count, at_own, within_get}
+use Rattle.slice_whole.proofs.FlatSlice.{own_count, within_get}
 use Rattle.wassail_top.proofs.NotRefuted.{NotRefuted, either}
 
 abbrev Answered : Module → ℕ → ℕ → List ℕ → Type 0

@@ -3,8 +3,8 @@
 ghost use Rattle.std.specs.Prelude.{◌≡◌};
 ghost use Rattle.wassail_top.specs.Refusals.{why_not_admitted, why_not_decoded, why_not_sliced};
 
-use slice_whole::SliceRefusal;
 use report_text::{ModuleRefusal, QueryRefusal};
+use slice_whole::SliceRefusal;
 use wasm_decode::DecodeEnd;
 use wasm_validate::AdmitEnd;
 

@@ -1,10 +1,7 @@
 use Rattle.std.proofs.Common.{inr, refl, subst, sym}
 use Rattle.std.proofs.lemmas.Result.{IfOk-weaker}
-use Rattle.wasm_types.specs.declared.module.Module.{Module}
 use Rattle.wasm_types.specs.Validity.{IsValid}
-use Rattle.wassail_top.specs.Answers.{AnswersFlat}
 use Rattle.slice_whole.specs.Flat.{IsFlat}
-use Rattle.wassail_top.specs.Reply.{reply_answer}
 use Rattle.wassail_top.proofs.due.answer_slice.Goals as goal
 
 pub is_flat-requires-clause-valid : goal.is_flat-requires-clause-valid
