@@ -1,6 +1,8 @@
 //! LEB128 numbers, both ways.
 
-use leb_codec::{read_s32, read_s64, read_u32, write_s32, write_s64, write_u32};
+use leb_codec::{
+    read_s32, read_s64, read_u32, write_i32_bits, write_i64_bits, write_s32, write_s64, write_u32,
+};
 use std::test::Fail;
 
 #[test]

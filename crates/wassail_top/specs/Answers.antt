@@ -7,6 +7,7 @@ use Rattle.report_text.specs.declared.refusal.Refusal.TheVariants as refusal
 use Rattle.report_text.specs.declared.refusal.ModuleRefusal.TheVariants.{TooLong}
 use Rattle.report_text.specs.declared.refusal.QueryRefusal.TheVariants.{Unbuilt}
 use Rattle.report_text.specs.Texts.{slice_line, valid_line}
+use Rattle.wasm_types.specs.declared.limits.TheConstants.{MOST_BYTES}
 use Rattle.wasm_types.specs.declared.module.Module.{Module}
 use Rattle.wasm_types.specs.declared.module.Name.{Name}
 use Rattle.wasm_types.specs.Canon.{canon}
@@ -25,7 +26,7 @@ use Rattle.wassail_top.specs.Words.{order_of}
 
 -- the greatest number of bytes that a module may have
 abbrev pub most_bytes : ℕ
-most_bytes = 8388608
+most_bytes = MOST_BYTES
 
 -- these bytes on out, and nothing on err
 abbrev pub bytes_alone : List ℕ → Answer

@@ -1,6 +1,7 @@
 -- A command without where its texts lie in memory.
 use Rattle.std.specs.Prelude.{ℕ, ◌≤◌, List, length, ⊤}
 use Rattle.std.specs.String.{string_bytes}
+use Rattle.wasm_types.specs.declared.limits.TheConstants.{MOST_NAME_BYTES}
 use Rattle.wassail_top.specs.declared.words.Command.{Command}
 use Rattle.wassail_top.specs.declared.words.Command.TheVariants.{Check, Rewrite, Slice}
 
@@ -16,7 +17,7 @@ order_read (Slice func at name) = slice func at (string_bytes name)
 
 -- the greatest number of bytes of a name
 abbrev pub most_name_bytes : ℕ
-most_name_bytes = 65536
+most_name_bytes = MOST_NAME_BYTES
 
 -- the name that is asked for isn't too long
 abbrev pub HasShortName : Order → Type 0

@@ -22,7 +22,7 @@ use slice_whole::{Sliced, is_flat, slice};
 use std::alloc::Global;
 use wasm_decode::decode;
 use wasm_encode::encode;
-use wasm_types::{Module, NoMemory, Pos, ValidModule};
+use wasm_types::{MOST_BYTES, Module, NoMemory, Pos, ValidModule};
 use wasm_validate::admit;
 
 /// A status, and what out and err get.
@@ -32,9 +32,6 @@ pub struct Reply {
     pub out: Vec<u8>,
     pub err: Vec<u8>,
 }
-
-// The greatest number of bytes that a module may have.
-const MOST_BYTES: usize = 8388608;
 
 /// What is due. It fails only where an allocation is refused.
 pub fn due<S: Source>(alloc: Global, words: &[String], source: &mut S) -> Result<Reply, NoMemory>

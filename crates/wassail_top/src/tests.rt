@@ -9,7 +9,7 @@ use std::test::Fail;
 const HEADER: &[u8] = b"\0asm\x01\0\0\0";
 
 // One function `(i32 i32) -> i32` that adds its parameters.
-pub(crate) const ADD: &[u8] =
+const ADD: &[u8] =
     b"\0asm\x01\0\0\0\x01\x07\x01\x60\x02\x7F\x7F\x01\x7F\x03\x02\x01\x00\x0A\x09\x01\x07\x00\x20\x00\x20\x01\x6A\x0B";
 
 // The same, with the size of the type section in five bytes.
@@ -152,7 +152,7 @@ fn tells_where_a_module_is_cut_off(rt: HostRuntime) -> Result<(), Fail> {
 }
 
 // `() -> i32` with `i32.const 1; br 0; i64.const 0`, which leaves an i64 too many.
-pub(crate) const INVALID: &[u8] =
+const INVALID: &[u8] =
     b"\0asm\x01\0\0\0\x01\x05\x01\x60\x00\x01\x7F\x03\x02\x01\x00\x0A\x0A\x01\x08\x00\x41\x01\x0C\x00\x42\x00\x0B";
 
 // A float comes before what isn't valid, and unreachable code is typed: `unreachable; f64.const 0; drop`, `f64.const 0` and
@@ -174,6 +174,42 @@ fn checks_modules_of_one_function(rt: HostRuntime) -> Result<(), Fail> {
             "",
         ),
         (INVALID, "wassail: module refused: invalid function 0\n"),
+    ];
+    for (bytes, line) in cases {
+        let got = end(&rt, &["check"], bytes, NEVER, NEVER)?;
+        assert_eq!(rt; got, checked(&rt, line)?);
+    }
+    Ok(())
+}
+
+// One page, `() -> i32`: `i32.const 0; i32.const 263; i32.const 4; memory.fill; i32.const 0; i32.load8_u 0 0`.
+const FILL: &[u8] =
+    b"\0asm\x01\0\0\0\x01\x05\x01\x60\x00\x01\x7F\x03\x02\x01\x00\x05\x03\x01\x00\x01\x0A\x13\x01\x11\x00\x41\x00\x41\x87\x02\x41\x04\xFC\x0B\x00\x41\x00\x2D\x00\x00\x0B";
+
+// The same, with the number behind the opcode of the fill in two bytes.
+const LONG_FILL: &[u8] =
+    b"\0asm\x01\0\0\0\x01\x05\x01\x60\x00\x01\x7F\x03\x02\x01\x00\x05\x03\x01\x00\x01\x0A\x14\x01\x12\x00\x41\x00\x41\x87\x02\x41\x04\xFC\x8B\x00\x00\x41\x00\x2D\x00\x00\x0B";
+
+// The same without a memory, and with another number behind the opcode.
+const NO_MEMORY: &[u8] =
+    b"\0asm\x01\0\0\0\x01\x05\x01\x60\x00\x01\x7F\x03\x02\x01\x00\x0A\x0D\x01\x0B\x00\x41\x00\x41\x07\x41\x04\xFC\x0B\x00\x0B";
+
+const OTHER_BULK: &[u8] =
+    b"\0asm\x01\0\0\0\x01\x05\x01\x60\x00\x01\x7F\x03\x02\x01\x00\x05\x03\x01\x00\x01\x0A\x0D\x01\x0B\x00\x41\x00\x41\x07\x41\x04\xFC\x0C\x00\x0B";
+
+#[test]
+fn reads_what_came_after_the_first_version(rt: HostRuntime) -> Result<(), Fail> {
+    for bytes in [FILL, LONG_FILL] {
+        let got = end(&rt, &["rewrite"], bytes, NEVER, NEVER)?;
+        assert_eq!(rt; got, answered(&rt, FILL, "")?);
+    }
+    let cases: [(&[u8], &str); 3] = [
+        (FILL, ""),
+        (NO_MEMORY, "wassail: module refused: invalid function 0\n"),
+        (
+            OTHER_BULK,
+            "wassail: module refused: section 3 (id 10) does not read\n",
+        ),
     ];
     for (bytes, line) in cases {
         let got = end(&rt, &["check"], bytes, NEVER, NEVER)?;
@@ -265,7 +301,7 @@ fn refuses_a_name_of_one_byte_too_many(rt: HostRuntime) -> Result<(), Fail> {
 }
 
 // The addition with the slice of its first instruction, under the name `s`: `local.get 0; i32.const 0; drop; drop; i32.const 0`.
-pub(crate) const SLICED: &[u8] =
+const SLICED: &[u8] =
     b"\0asm\x01\0\0\0\x01\x07\x01\x60\x02\x7F\x7F\x01\x7F\x03\x03\x02\x00\x00\x07\x05\x01\x01s\x00\x01\x0A\x14\x02\x07\x00\x20\x00\x20\x01\x6A\x0B\x0A\x00\x20\x00\x41\x00\x1A\x1A\x41\x00\x0B";
 
 #[test]

@@ -8,6 +8,7 @@ ghost use Rattle.wassail_top.specs.Parses.{Parses};
 ghost use Rattle.wassail_top.specs.Words.{alone, number_of, order_of, two_and_name};
 
 use thiserror::Error;
+use wasm_types::MOST_NAME_BYTES;
 
 /// What the program is asked to do.
 #[derive(Debug, Drop, PartialEq, Eq)]
@@ -59,9 +60,6 @@ fn parse_alone(command: Command, rest: &[String]) -> Result<Command, WordsEnd>
         Err(WordsEnd::Refused)
     }
 }
-
-// The greatest number of bytes of a name.
-const MOST_NAME_BYTES: usize = 65536;
 
 // Two numbers and a name.
 fn parse_slice(rest: &[String]) -> Result<Command, WordsEnd>
