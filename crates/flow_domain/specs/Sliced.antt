@@ -4,6 +4,7 @@ use Rattle.wasm_types.specs.declared.module.ValType.{ValType}
 use Rattle.wasm_types.specs.declared.module.FuncType.{FuncType}
 use Rattle.wasm_types.specs.declared.module.Name.{Name}
 use Rattle.wasm_types.specs.declared.module.ExportKind.TheVariants as export
+use Rattle.wasm_types.specs.declared.module.Export.{Export}
 use Rattle.wasm_types.specs.declared.module.Body.{Body}
 use Rattle.wasm_types.specs.declared.module.Module.{Module}
 use Rattle.wasm_types.specs.declared.place.Loc.{Loc}
@@ -66,6 +67,10 @@ KeptAt cs t b i n =
 -- the cut of a body, given the kept nodes and the types of the places. Every place is present
 abbrev pub cut_of : Callees → (Node → Bool) → (Node → ValType) → FuncType → Body → ℕ → Marked
 cut_of cs K T t b i = cut_body cs K every T (result_type t) (watched_once b i)
+
+-- one of the exports has the name
+abbrev pub HasExport : List Export → List ℕ → Type 0
+HasExport exports name = (k : ℕ) × (e : Export) × (slice_get exports k ≡ Some e) × (e.name.bytes ≡ name)
 
 -- the module with one function more, of a type number and a body, which is exported by a name
 abbrev pub appended : Module → ℕ → Body → Name → Module

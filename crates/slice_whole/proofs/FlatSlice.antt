@@ -29,7 +29,7 @@ use Rattle.wasm_types.specs.Actions.{callees}
 use Rattle.flow_domain.specs.Flat.{all_i32}
 use Rattle.flow_domain.specs.Sliced.{func_count, context_of, appended, IsSliced}
 use Rattle.stack_repair.specs.FlatCut.{IsTyped}
-use Rattle.stack_repair.specs.Law.{HasExport}
+use Rattle.flow_domain.specs.Sliced.{HasExport}
 use Rattle.slice_whole.specs.declared.slicing.NewFunc.{NewFunc}
 use Rattle.std.specs.Result.{IsErrAnd}
 use Rattle.std.proofs.Common.{Result, Ok, Err}

@@ -14,7 +14,7 @@ use Rattle.wasm_types.specs.Spaces.{import_count, HasBody}
 use Rattle.wasm_types.specs.Subset.{InSubset, IsSealed}
 use Rattle.wasm_types.specs.WellFormed.{IsU8, ProperName}
 use Rattle.flow_domain.specs.Sliced.{func_count, appended, IsSliced}
-use Rattle.stack_repair.specs.Law.{HasExport}
+use Rattle.flow_domain.specs.Sliced.{HasExport}
 use Rattle.stack_repair.proofs.Appended.{body_is_short, slice_is_short, slice_is_sealed}
 use Rattle.stack_repair.proofs.Slices.{sliced_has_cut}
 use Rattle.slice_whole.specs.declared.slicing.NewFunc.{NewFunc}

@@ -13,7 +13,7 @@ use Rattle.wasm_types.specs.Actions.{Callees}
 use Rattle.flow_domain.specs.Flat.{all_i32}
 use Rattle.flow_domain.specs.Kept.{Tells}
 use Rattle.flow_domain.specs.Sliced.{func_count, KeptAt, cut_of, IsSliced}
-use Rattle.stack_repair.specs.Law.{HasExport}
+use Rattle.flow_domain.specs.Sliced.{HasExport}
 use Rattle.slice_whole.specs.declared.slicing.Sliced.{Sliced}
 use Rattle.slice_whole.specs.declared.slicing.NewFunc.{NewFunc}
 use Rattle.slice_whole.specs.declared.slicing.SliceRefusal.{SliceRefusal}

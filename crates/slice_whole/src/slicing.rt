@@ -9,7 +9,7 @@ ghost use Rattle.wasm_types.specs.Small.{IsSmallCode};
 ghost use Rattle.wasm_types.specs.WellFormed.{IsWellFormed};
 ghost use Rattle.flow_domain.specs.Sliced.{appended};
 ghost use Rattle.stack_repair.specs.FlatCut.{IsTyped};
-ghost use Rattle.stack_repair.specs.Law.{HasExport};
+ghost use Rattle.flow_domain.specs.Sliced.{HasExport};
 ghost use Rattle.slice_whole.specs.declared.slicing.SliceRefusal.TheVariants as SliceRefusal;
 ghost use Rattle.slice_whole.specs.Flat.{IsFlat};
 ghost use Rattle.slice_whole.specs.Slices.{FindsNew, IsCutBody, IsShortFor, Slices};

@@ -32,7 +32,8 @@ use Rattle.wasm_types.proofs.CodeLemmas.{length-flatten}
 use Rattle.wasm_types.specs.Actions.{callees}
 use Rattle.flow_domain.specs.Cut.{cut_body}
 use Rattle.flow_domain.specs.Sliced.{func_count, appended, result_type, watched_code}
-use Rattle.stack_repair.specs.Law.{HasExport, with_cut, HasTypedBody, HasCut, BodyIsShort, SliceIsValid, SliceIsShort, SliceIsSpelled, SliceIsSealed}
+use Rattle.flow_domain.specs.Sliced.{HasExport}
+use Rattle.stack_repair.specs.Law.{with_cut, HasTypedBody, HasCut, BodyIsShort, SliceIsValid, SliceIsShort, SliceIsSpelled, SliceIsSealed}
 use Rattle.stack_repair.proofs.Counting.{unmarked-marked, cut_is_short, cut_nests_no_deeper}
 use Rattle.stack_repair.proofs.Every.{cut_integer, cut_proper}
 use Rattle.stack_repair.proofs.Bodies.{at_of, cut_back, cut_is_valid}

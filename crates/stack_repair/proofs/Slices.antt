@@ -6,7 +6,8 @@ use Rattle.wasm_types.specs.WellFormed.{ProperName}
 use Rattle.wasm_types.specs.Actions.{callees}
 use Rattle.wasm_types.specs.Nodes.{every}
 use Rattle.flow_domain.specs.Sliced.{sites_at, ends_at, IsSliced}
-use Rattle.stack_repair.specs.Law.{HasExport, HasCut}
+use Rattle.flow_domain.specs.Sliced.{HasExport}
+use Rattle.stack_repair.specs.Law.{HasCut}
 use Rattle.stack_repair.proofs.Heights.{every_holds}
 
 unfoldable pub sliced_has_cut : (m : Module) (f i : ℕ) (name : Name) (new : Module) (at : ℕ) → ProperName name → (HasExport m.exports name.bytes → ⊥)

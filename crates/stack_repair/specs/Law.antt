@@ -3,7 +3,6 @@ use Rattle.std.specs.Prelude.{◌≡◌, ℕ, ◌+◌, ◌*◌, ◌≤◌, ◌<�
 use Rattle.wasm_types.specs.declared.module.ValType.{ValType}
 use Rattle.wasm_types.specs.declared.module.FuncType.{FuncType}
 use Rattle.wasm_types.specs.declared.module.Name.{Name}
-use Rattle.wasm_types.specs.declared.module.Export.{Export}
 use Rattle.wasm_types.specs.declared.module.Body.{Body}
 use Rattle.wasm_types.specs.declared.module.Module.{Module}
 use Rattle.wasm_types.specs.declared.place.Node.{Node}
@@ -24,7 +23,7 @@ use Rattle.wasm_types.specs.Places.{TypesPlaces}
 use Rattle.flow_domain.specs.Cut.{cut_body}
 use Rattle.flow_domain.specs.Heights.{Shaped}
 use Rattle.flow_domain.specs.Presence.{HoldsNeeded}
-use Rattle.flow_domain.specs.Sliced.{context_of, result_type, watched_code, appended}
+use Rattle.flow_domain.specs.Sliced.{HasExport, context_of, result_type, watched_code, appended}
 
 -- the sites and live ends of a body of this type in this module, with some positions watched
 abbrev pub sites_in : Module → FuncType → (ℕ → Bool) → Body → Sites
@@ -93,10 +92,6 @@ CutIsSmall =
     → length (canon_code (unmarked (cut_body cs K P T t (marked w 0 c)))) ≤ 3 * length (canon_code c)
 
 -- ---- the module with a cut appended
-
--- one of the exports has the name
-abbrev pub HasExport : List Export → List ℕ → Type 0
-HasExport exports name = (k : ℕ) × (e : Export) × (slice_get exports k ≡ Some e) × (e.name.bytes ≡ name)
 
 -- `new` is m with the cut of the body of an own function as one function more, under a name that it has not. Any nodes may be kept.
 pub record HasCut (m : Module) (name : Name) (new : Module) : Type 0 where

@@ -12,8 +12,8 @@ ghost use Rattle.wasm_validate.specs.Limits.{FindsKind, FindsOver, initial_size}
 use crate::imports::first_own_func;
 use body_check::Spaces;
 use wasm_types::{
-    LimitKind, Limits, LocalRun, MOST_ENTRIES, MOST_FUNCTIONS, MOST_GLOBALS, MOST_LOCALS, MOST_PARAMS,
-    MOST_POSITIONS, Module,
+    LimitKind, Limits, LocalRun, MOST_ENTRIES, MOST_FUNCTIONS, MOST_GLOBALS, MOST_LOCALS,
+    MOST_PARAMS, MOST_POSITIONS, Module,
 };
 
 /// A number over its limit: what it counts, the number of the type or of the function (0 where the limit is on neither), and the number itself.

@@ -14,7 +14,7 @@ use Rattle.slice_whole.specs.Flat.{IsFlat}
 use Rattle.wassail_top.specs.Orders.{most_name_bytes}
 use Rattle.wassail_top.specs.Refusals.{Answer, refused}
 use Rattle.flow_domain.specs.Sliced.{func_count}
-use Rattle.stack_repair.specs.Law.{HasExport}
+use Rattle.flow_domain.specs.Sliced.{HasExport}
 use Rattle.slice_whole.proofs.OneSliced.{the_slice}
 use Rattle.slice_whole.proofs.FlatSlice.{own_count, within_get}
 use Rattle.wassail_top.proofs.NotRefuted.{NotRefuted, either}

@@ -18,7 +18,7 @@ use Rattle.wasm_validate.specs.Admission.{IsAdmitted}
 use Rattle.slice_whole.specs.Flat.{IsFlat}
 use Rattle.flow_domain.specs.Sliced.{func_count, IsSliced}
 use Rattle.slice_whole.specs.Slices.{Refuses}
-use Rattle.stack_repair.specs.Law.{HasExport}
+use Rattle.flow_domain.specs.Sliced.{HasExport}
 use Rattle.wassail_top.specs.Orders.{Order, most_name_bytes}
 use Rattle.wassail_top.specs.Orders.Order.{check, rewrite, slice}
 use Rattle.wassail_top.specs.Refusals.{Answer, refused, IsRefused, why_not_decoded, why_not_admitted, why_not_sliced}
