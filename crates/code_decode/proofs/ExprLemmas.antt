@@ -4,9 +4,9 @@ use Rattle.wasm_types.specs.declared.instr.Instr.{Instr}
 use Rattle.wasm_types.specs.Code.{code_of}
 use Rattle.wasm_types.specs.Standing.{Stands, NoneStands}
 use Rattle.wasm_types.specs.Grammar.{IsEnder, SpellsInstrs}
-use Rattle.wasm_types.proofs.Once.{after}
-use Rattle.wasm_types.proofs.StandingLemmas.{next}
-use Rattle.wasm_types.proofs.CodeUnique.{first, one_code}
+use Rattle.text_laws.proofs.Once.{after}
+use Rattle.text_laws.proofs.StandingLemmas.{next}
+use Rattle.text_laws.proofs.CodeUnique.{first, one_code}
 use Rattle.code_decode.specs.Reading.{SpellsWithin}
 
 pub expr_stands : (room : ℕ) (bytes : List ℕ) (at end : ℕ) (xs : List Instr) → Stands (SpellsWithin room) bytes at end (code_of xs)

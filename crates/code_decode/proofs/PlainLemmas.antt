@@ -10,10 +10,10 @@ use Rattle.wasm_types.specs.Standing.{Stands, NoneStands}
 use Rattle.wasm_types.specs.Numbers.{SpellsU32, SpellsS32, SpellsS64, SpellsI32, SpellsI64}
 use Rattle.wasm_types.specs.Parts.{Both, Counted}
 use Rattle.wasm_types.specs.Plain.{Immediates, nothing, number, labels, signature, address, memory, signed_32, signed_64, raw_32, raw_64, bulk, never, memories_of, opcode, immediates, SpellsRaw32, SpellsRaw64, SpellsBulk, SpellsImmediates, SpellsPlain, SpellsAddress, SpellsSignature}
-use Rattle.wasm_types.proofs.NumberLemmas.{signed_below, one_signed}
-use Rattle.wasm_types.proofs.Once.{IsOnce, once_u32, once_both, once_counted}
-use Rattle.wasm_types.proofs.OpcodeLemmas.{once_raw32, once_raw64, once_bulk}
-use Rattle.wasm_types.proofs.StandingLemmas.{next, behind_first, both_stands, none_both_first, none_both_second}
+use Rattle.text_laws.proofs.NumberLemmas.{signed_below, one_signed}
+use Rattle.text_laws.proofs.Once.{IsOnce, once_u32, once_both, once_counted}
+use Rattle.text_laws.proofs.OpcodeLemmas.{once_raw32, once_raw64, once_bulk}
+use Rattle.text_laws.proofs.StandingLemmas.{next, behind_first, both_stands, none_both_first, none_both_second}
 use Rattle.code_decode.specs.declared.outcome.Stop.{Stop}
 use Rattle.code_decode.specs.declared.outcome.Stop.TheVariants as stop
 use Rattle.opcode_table.specs.declared.instructions.Following.{Following}

@@ -8,9 +8,9 @@ use Rattle.wasm_types.specs.Standing.{Stands, NoneStands}
 use Rattle.wasm_types.specs.Types.{kind_byte}
 use Rattle.wasm_types.specs.Plain.{SpellsPlain}
 use Rattle.wasm_types.specs.Grammar.{Encloses, IsEnder, SpellsCode, SpellsInstrs}
-use Rattle.wasm_types.proofs.Once.{after}
-use Rattle.wasm_types.proofs.StandingLemmas.{next}
-use Rattle.wasm_types.proofs.CodeUnique.{first, plain_leads, Leads, leads, tail_of, split, head_cons, one_head}
+use Rattle.text_laws.proofs.Once.{after}
+use Rattle.text_laws.proofs.StandingLemmas.{next}
+use Rattle.text_laws.proofs.CodeUnique.{first, plain_leads, Leads, leads, tail_of, split, head_cons, one_head}
 use Rattle.code_decode.specs.Scan.{Seq, Closes, SameTail, Opens}
 use Rattle.code_decode.proofs.Steps.{next_two, code_of-list_of}
 

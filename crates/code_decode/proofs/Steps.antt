@@ -11,9 +11,9 @@ use Rattle.wasm_types.specs.Types.{kind_byte}
 use Rattle.wasm_types.specs.Plain.{SpellsPlain}
 use Rattle.wasm_types.specs.Grammar.{Encloses, HasArms, IsEnder, SpellsCode}
 use Rattle.wasm_types.proofs.CodeLemmas.{onto-one, onto-block, onto-loop, onto-if, list_of-onto}
-use Rattle.wasm_types.proofs.Once.{after}
-use Rattle.wasm_types.proofs.StandingLemmas.{next}
-use Rattle.wasm_types.proofs.CodeUnique.{first, plain_leads, one_code, SpellsHead, tail_of, split, nest-tail_of, head_cons, head_leads, one_head}
+use Rattle.text_laws.proofs.Once.{after}
+use Rattle.text_laws.proofs.StandingLemmas.{next}
+use Rattle.text_laws.proofs.CodeUnique.{first, plain_leads, one_code, SpellsHead, tail_of, split, nest-tail_of, head_cons, head_leads, one_head}
 use Rattle.code_decode.specs.declared.outcome.Stop.{Stop}
 use Rattle.code_decode.specs.declared.outcome.Stop.TheVariants as stop
 use Rattle.code_decode.specs.Reading.{SpellsWithin, NoCode, NoInstr, EnclosedText, ReadsEnclosed, ReadsCode, ReadsInstr, ReadsOr}

@@ -35,4 +35,3 @@ pub mod SliceReturns
 pub mod Heights
 pub mod CallFree
 pub mod Following
-pub mod Example

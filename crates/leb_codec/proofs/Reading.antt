@@ -2,7 +2,7 @@
 use Rattle.std.proofs.Common.{◌≡◌, ℕ, ◌+◌, ◌*◌, ◌/◌, ◌<◌, ◌≤◌, List, [], ◌∷◌, ◌++◌, length, get_or, drop, refl, sym, ap, ◌∙◌, arith, length-drop, subst, inl, inr}
 use Rattle.wasm_types.specs.Numbers.{SpellsUnsigned, SpellsSigned}
 use Rattle.wasm_types.specs.Standing.{Stands, NoneStands}
-use Rattle.wasm_types.proofs.StandingLemmas.{next}
+use Rattle.text_laws.proofs.StandingLemmas.{next}
 
 pub none_past : (limit : ℕ) (bytes : List ℕ) (at : ℕ) → length bytes ≤ at → NoneStands (SpellsUnsigned limit) bytes at
 none_past limit bytes at past [] rest v here spelled = spelled

@@ -3,7 +3,7 @@ use Rattle.std.proofs.Common.{inl, inr, ◌≡◌, ℕ, zero, suc, ◌+◌, ◌-
 use Rattle.std.proofs.lemmas.Bool.{cases_lt, lt-ltb, le-ltb, false≢true}
 use Rattle.std.proofs.lemmas.List.{take_more_set}
 use Rattle.wasm_types.specs.Numbers.{shortest_unsigned, shortest_signed, half_of, SpellsSigned}
-use Rattle.wasm_types.proofs.NumberLemmas.{last_byte, one_byte, half_of-some}
+use Rattle.text_laws.proofs.NumberLemmas.{last_byte, one_byte, half_of-some}
 
 -- what the rest stays below after so many bytes
 abbrev pub room : ℕ → ℕ

@@ -12,7 +12,7 @@ use Rattle.wasm_types.specs.declared.instr.Instr.TheViews.{the_lemmas}
 use Rattle.wasm_types.specs.Types.{type_byte, kind_byte, mutable_byte}
 use Rattle.wasm_types.specs.Sections.{export_byte}
 use Rattle.wasm_types.specs.Plain.{Immediates, nothing, num_opcode, load_opcode, store_opcode, opcode, immediates, SpellsImmediates}
-use Rattle.wasm_types.proofs.OpcodeLemmas.{bare_of, make, told}
+use Rattle.text_laws.proofs.OpcodeLemmas.{bare_of, make, told}
 use Rattle.opcode_table.specs.Table.{ReadsBack, Makes}
 
 -- ---- the opcodes of what holds others

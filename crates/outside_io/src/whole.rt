@@ -28,7 +28,7 @@ const PIECE: usize = 65536;
 /// All that is left in the source, read to its end, where that is at most `limit` bytes.
 ///
 /// `Fault` comes only where the source's count of faults rose in this call. `TooLong` comes exactly where one byte
-/// more than the limit was taken, and no call takes more than that. `Memory` comes for want of memory alone.
+/// more than the limit was taken, and no call takes more than that. `Memory` comes only where an allocation is refused.
 pub fn read_all<S: Source>(alloc: Global, source: &mut S, limit: usize) -> Result<Vec<u8>, ReadEnd>
     requires { limit < 2 ^ 64 - 1 }
     ensures taken { ReadsAll limit (S.left source.old) (S.left source.new) result }

@@ -34,7 +34,7 @@ fn push_operands(needs: &mut Vec<bool>, count: usize, keep: bool) -> Result<(), 
 }
 
 /// For each position of flat code whether it is kept, where position `at` is watched. It walks backwards with what is needed of each value on the stack.
-/// It refuses for want of memory alone.
+/// It fails only where an allocation is refused.
 pub fn close(alloc: Global, code: &[Instr], at: usize) -> Result<Vec<bool>, AllocError>
     requires { IsSmallCode (code_of code.now) }
     ensures len { IfOk result (λ kept. length kept.items ≡ length code.now) }

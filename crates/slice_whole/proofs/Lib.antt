@@ -4,6 +4,5 @@ pub mod FlatSlice
 pub mod FlatInteger
 pub mod Made
 pub mod OneSliced
-mod SliceExample
 pub mod Follows
 mod SliceSmall

@@ -29,7 +29,7 @@ pub struct Sliced {
     pub at: Pos,
 }
 
-/// Why a module isn't sliced. The first cause that holds is told.
+/// Why a module isn't sliced. The first cause that holds is answered.
 #[derive(Clone, Copy, Debug, PartialEq, Eq, Error)]
 pub enum SliceRefusal {
     /// No function has the number.
@@ -156,7 +156,7 @@ fn new_func(
 }
 
 /// The sliced module of a flat module: one function more, the cut of function `func` at position `at`, which is exported as `name`. It refuses a number
-/// that no function has, a position that the body doesn't have, a name that an export has, and then only for want of memory.
+/// that no function has, a position that the body doesn't have, a name that an export has, and then only where an allocation is refused.
 pub fn slice(
     alloc: Global,
     given: ValidModule,

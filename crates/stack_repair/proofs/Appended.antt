@@ -39,9 +39,9 @@ use Rattle.stack_repair.proofs.Every.{cut_integer, cut_proper}
 use Rattle.stack_repair.proofs.Bodies.{at_of, cut_back, cut_is_valid}
 use Rattle.stack_repair.proofs.Bytes.{cut_is_small, appended_size}
 use Rattle.wasm_types.specs.Canon.{canon_code, canon}
-use Rattle.wasm_types.proofs.CanonModule.{canon_spelled}
-use Rattle.wasm_types.proofs.SizeLemmas.{has_at_most}
-use Rattle.wasm_types.proofs.ModuleLemmas.{one_module}
+use Rattle.text_laws.proofs.CanonModule.{canon_spelled}
+use Rattle.text_laws.proofs.SizeLemmas.{has_at_most}
+use Rattle.text_laws.proofs.ModuleLemmas.{one_module}
 
 -- ---- one entry more
 

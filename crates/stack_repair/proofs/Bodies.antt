@@ -34,7 +34,7 @@ use Rattle.flow_domain.specs.Presence.{HoldsNeeded, at_exit}
 use Rattle.flow_domain.specs.Sliced.{context_of, result_type, watched_code}
 use Rattle.stack_repair.specs.Law.{sites_in, ends_in, with_cut, HasTypedBody, HasTypes, ValidHasHeights, CutIsOne, CutIsValid}
 use Rattle.stack_repair.proofs.Counting.{unmarked-marked}
-use Rattle.wasm_types.proofs.Shapes.{Integers, IsIntegerContext, numbered}
+use Rattle.flow_domain.proofs.Shapes.{Integers, IsIntegerContext, numbered}
 use Rattle.stack_repair.proofs.Typed.{Typed, by_kind, typed_of}
 use Rattle.stack_repair.proofs.CutTyping.{label_body, cut_leads}
 use Rattle.stack_repair.proofs.Positions.{has_all, among_left, among_right, among_end, all_first}

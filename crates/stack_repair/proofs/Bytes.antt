@@ -17,7 +17,7 @@ use Rattle.wasm_types.specs.Marked.{Marked, End, Do, Block, Loop, If, Br, BrIf, 
 use Rattle.wasm_types.specs.Sections.{export_byte}
 use Rattle.wasm_types.specs.Types.{kind_byte}
 use Rattle.wasm_types.specs.Canon.{canon_each, canon_counted, canon_sized, canon_plain, else_part, canon_code, canon_instrs, canon_name, canon_export, canon_run, canon_body, canon_entry, canon_list, canon}
-use Rattle.wasm_types.proofs.LeastLemmas.{canon_lengths}
+use Rattle.text_laws.proofs.LeastLemmas.{canon_lengths}
 use Rattle.wasm_types.specs.Actions.{Callees, takes, leaves}
 use Rattle.wasm_types.specs.Labels.{arity}
 use Rattle.wasm_types.specs.declared.place.Node.{Node}

@@ -13,7 +13,7 @@ use Rattle.wasm_types.specs.declared.place.Node.{Node}
 use Rattle.wasm_types.specs.Nodes.{At, Join, named, made, AllIn}
 use Rattle.flow_domain.specs.Cut.{pick, one_more, shown, zero_const, drops, zeros, filler, result_of, cut}
 use Rattle.stack_repair.proofs.Live.{HasKind}
-use Rattle.wasm_types.proofs.Shapes.{Integers, passes_of}
+use Rattle.flow_domain.proofs.Shapes.{Integers, passes_of}
 use Rattle.stack_repair.proofs.Typed.{Carries, HasTest, KindTyped, Typed}
 
 -- ---- the slice's stack

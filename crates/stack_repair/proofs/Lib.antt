@@ -13,4 +13,3 @@ mod Every
 mod Bytes
 pub mod Appended
 pub mod Slices
-mod Example

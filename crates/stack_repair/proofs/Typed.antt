@@ -15,7 +15,7 @@ use Rattle.wasm_types.specs.Labels.{arity}
 use Rattle.wasm_types.specs.declared.place.Node.{Node}
 use Rattle.wasm_types.specs.Nodes.{At, Join, named, made}
 use Rattle.stack_repair.proofs.Live.{HasResultType, HasKind, TypesLive}
-use Rattle.wasm_types.proofs.Shapes.{Integers, IsIntegerContext, shape, GoesOn, TypedPass, passed}
+use Rattle.flow_domain.proofs.Shapes.{Integers, IsIntegerContext, shape, GoesOn, TypedPass, passed}
 
 -- the first names have these types
 abbrev pub Carries : (Node → ValType) → List ValType → List Node → Type 0

@@ -51,7 +51,7 @@ fn put(alloc: Global, made: &mut Items<Instr>, instr: &Instr, keep: bool) -> Res
     Ok(())
 }
 
-/// The cut of flat code, of which the flags tell what is kept, and where position `at` went. It refuses for want of memory alone.
+/// The cut of flat code, of which the flags tell what is kept, and where position `at` went. It fails only where an allocation is refused.
 pub fn cut(alloc: Global, code: &[Instr], kept: &[bool], at: usize) -> Result<CutCode, NoMemory>
     requires small { IsSmallCode (code_of code.now) }
     requires typed { IsTyped (code_of code.now) }

@@ -17,9 +17,9 @@ use Rattle.wasm_types.specs.Parts.{Counted, Sized, Within}
 use Rattle.wasm_types.specs.Types.{SpellsFuncType, SpellsLimits, SpellsTableType}
 use Rattle.wasm_types.specs.Sections.{SpellsName, SpellsCustom, SpellsTypes, SpellsImport, SpellsImports, SpellsFuncs, SpellsTables, SpellsMems, SpellsGlobal, SpellsGlobals, SpellsExport, SpellsExports, SpellsElem, SpellsElems, SpellsBody, SpellsBodies, SpellsSegment, SpellsSegments}
 use Rattle.wasm_types.specs.Modules.{named_payload, later_of}
-use Rattle.wasm_types.proofs.Once.{IsOnce}
-use Rattle.wasm_types.proofs.ModuleLemmas.{not_whole, none_whole}
-use Rattle.wasm_types.proofs.Once.{once_counted}
+use Rattle.text_laws.proofs.Once.{IsOnce}
+use Rattle.text_laws.proofs.ModuleLemmas.{not_whole, none_whole}
+use Rattle.text_laws.proofs.Once.{once_counted}
 use Rattle.code_decode.specs.declared.outcome.Stop.{Stop}
 use Rattle.code_decode.specs.declared.outcome.Stop.TheVariants as stop
 use Rattle.wasm_decode.specs.declared.list.Entries.{Entries}

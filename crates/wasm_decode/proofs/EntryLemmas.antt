@@ -7,8 +7,8 @@ use Rattle.std.proofs.lemmas.List.Elements.{All-nil, All-push}
 use Rattle.wasm_types.specs.Standing.{Stands, NoneStands}
 use Rattle.wasm_types.specs.Numbers.{SpellsU32}
 use Rattle.wasm_types.specs.Parts.{EachOf, Counted}
-use Rattle.wasm_types.proofs.Once.{IsOnce}
-use Rattle.wasm_types.proofs.StandingLemmas.{no_items_yet, one_more_stands, none_of_more, none_of_any, none_of_same, counted_stands, none_counted_second}
+use Rattle.text_laws.proofs.Once.{IsOnce}
+use Rattle.text_laws.proofs.StandingLemmas.{no_items_yet, one_more_stands, none_of_more, none_of_any, none_of_same, counted_stands, none_counted_second}
 use Rattle.code_decode.specs.declared.outcome.Stop.{Stop}
 use Rattle.code_decode.specs.declared.outcome.Stop.TheVariants as stop
 use Rattle.wasm_decode.specs.declared.list.Entries.{Entries}

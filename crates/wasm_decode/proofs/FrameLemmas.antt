@@ -3,7 +3,7 @@ use Rattle.std.proofs.Common.{◌≡◌, ℕ, ◌+◌, ◌<◌, ◌≤◌, max, 
 use Rattle.wasm_types.specs.Standing.{Stands, NoneStands}
 use Rattle.wasm_types.specs.Parts.{Sized}
 use Rattle.wasm_types.specs.Modules.{SpellsFrame, MayFollow, InOrder, Sections}
-use Rattle.wasm_types.proofs.StandingLemmas.{next, each_one_more}
+use Rattle.text_laws.proofs.StandingLemmas.{next, each_one_more}
 use Rattle.wasm_decode.specs.Frames.{Section, NextFrame}
 
 pub frame_stands : (bytes : List ℕ) (last at end id : ℕ) (part : List ℕ) → at < length bytes → get_or bytes at 0 ≡ id → MayFollow last id

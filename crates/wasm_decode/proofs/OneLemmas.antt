@@ -13,9 +13,9 @@ use Rattle.wasm_types.specs.Parts.{Each}
 use Rattle.wasm_types.specs.Sections.{SpellsCustom, SpellsTypes, SpellsImports, SpellsFuncs, SpellsTables, SpellsMems, SpellsGlobals, SpellsExports, SpellsElems, SpellsBodies, SpellsSegments}
 use Rattle.wasm_types.specs.Modules.{header, SpellsFrame, MayFollow, InOrder, Sections, contents_of, ListIs, OptionIs, NamesAre, Spells}
 use Rattle.wasm_types.specs.Subset.{NestsAtMost, most_nesting}
-use Rattle.wasm_types.proofs.Once.{after, once_u32}
-use Rattle.wasm_types.proofs.SectionLemmas.{whole_is, one_custom, once_types, once_imports, once_funcs, once_tables, once_mems, once_globals, once_exports, once_elems, once_bodies, once_segments}
-use Rattle.wasm_types.proofs.ModuleLemmas.{once_frame, one_list, one_module, drop_all}
+use Rattle.text_laws.proofs.Once.{after, once_u32}
+use Rattle.text_laws.proofs.SectionLemmas.{whole_is, one_custom, once_types, once_imports, once_funcs, once_tables, once_mems, once_globals, once_exports, once_elems, once_bodies, once_segments}
+use Rattle.text_laws.proofs.ModuleLemmas.{once_frame, one_list, one_module, drop_all}
 use Rattle.wasm_decode.specs.declared.refusal.DecodeEnd.{DecodeEnd}
 use Rattle.wasm_decode.specs.declared.refusal.DecodeEnd.TheVariants as end
 use Rattle.wasm_decode.specs.Depth.{IsShallowGlobal, IsShallowElem, IsShallowBody, IsShallowSegment}

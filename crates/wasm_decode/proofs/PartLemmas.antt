@@ -8,10 +8,10 @@ use Rattle.wasm_types.specs.Numbers.{SpellsU32}
 use Rattle.wasm_types.specs.Parts.{Behind, Both, Sized, Within}
 use Rattle.wasm_types.specs.Types.{SpellsLimits, SpellsTableType, SpellsGlobalType}
 use Rattle.wasm_types.specs.Sections.{SpellsName, SpellsImportKind}
-use Rattle.wasm_types.proofs.Once.{IsOnce, once_u32}
-use Rattle.wasm_types.proofs.SectionLemmas.{once_sized}
-use Rattle.wasm_types.proofs.ModuleLemmas.{not_whole, none_whole}
-use Rattle.wasm_types.proofs.StandingLemmas.{next, behind_first, both_stands, none_both_second}
+use Rattle.text_laws.proofs.Once.{IsOnce, once_u32}
+use Rattle.text_laws.proofs.SectionLemmas.{once_sized}
+use Rattle.text_laws.proofs.ModuleLemmas.{not_whole, none_whole}
+use Rattle.text_laws.proofs.StandingLemmas.{next, behind_first, both_stands, none_both_second}
 use Rattle.code_decode.specs.declared.outcome.Stop.{Stop}
 use Rattle.code_decode.specs.declared.outcome.Stop.TheVariants as stop
 use Rattle.wasm_decode.specs.Entries.{Rule, IsEntry, ReadsEntry, both_of}

@@ -13,7 +13,7 @@ use Rattle.wasm_types.specs.Numbers.{SpellsU32}
 use Rattle.wasm_types.specs.Sections.{SpellsCustom, SpellsTypes, SpellsImports, SpellsFuncs, SpellsTables, SpellsMems, SpellsGlobals, SpellsExports, SpellsElems, SpellsBodies, SpellsSegments}
 use Rattle.wasm_types.specs.Modules.{InOrder, Sections, Spells, contents_of, ListIs, OptionIs, NamesAre, named_payload, later_of}
 use Rattle.wasm_types.specs.Subset.{NestsAtMost, most_nesting}
-use Rattle.wasm_types.proofs.ModuleLemmas.{drop_all}
+use Rattle.text_laws.proofs.ModuleLemmas.{drop_all}
 use Rattle.code_decode.specs.declared.outcome.Stop.{Stop}
 use Rattle.code_decode.specs.declared.outcome.Stop.TheVariants as no
 use Rattle.wasm_decode.specs.declared.frames.Frame.{Frame}

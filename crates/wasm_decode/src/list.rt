@@ -4,8 +4,8 @@ ghost use Rattle.std.specs.Prelude.{◌≡◌, refl, ◌<◌, ◌≤◌, All, If
 ghost use Rattle.wasm_types.specs.Numbers.{SpellsU32};
 ghost use Rattle.wasm_types.specs.Standing.{Stands, NoneStands};
 ghost use Rattle.wasm_types.specs.Parts.{Counted, Sized, Within};
-ghost use Rattle.wasm_types.proofs.Once.{once_counted, once_u32};
-ghost use Rattle.wasm_types.proofs.SectionLemmas.{once_byte, once_sized, once_within};
+ghost use Rattle.text_laws.proofs.Once.{once_counted, once_u32};
+ghost use Rattle.text_laws.proofs.SectionLemmas.{once_byte, once_sized, once_within};
 ghost use Rattle.wasm_decode.specs.Entries.{Any, IsByte, ReadsEntries, AddsEntry, ReadsRange};
 
 use crate::production::{Plain, Production};

@@ -3,7 +3,7 @@
 ghost use Rattle.std.specs.Prelude.{◌≡◌, List, MatchOption, ℕ};
 ghost use Rattle.wasm_types.specs.Parts.{Both};
 ghost use Rattle.wasm_types.specs.Standing.{Reads};
-ghost use Rattle.wasm_types.proofs.Once.{IsOnce, once_both};
+ghost use Rattle.text_laws.proofs.Once.{IsOnce, once_both};
 ghost use Rattle.wasm_decode.specs.Entries.{Any, Makes, ReadsEntry, both_of};
 
 use code_decode::Stop;

@@ -2,7 +2,7 @@
 
 ghost use Rattle.std.specs.Prelude.{◌≡◌, refl, Decides, IsUtf8};
 ghost use Rattle.wasm_types.specs.Sections.{SpellsName, SpellsImportKind, SpellsImport, SpellsExportKind, SpellsExport};
-ghost use Rattle.wasm_types.proofs.SectionLemmas.{once_name, once_import, once_import_kind, once_export_kind, once_export};
+ghost use Rattle.text_laws.proofs.SectionLemmas.{once_name, once_import, once_import_kind, once_export_kind, once_export};
 ghost use Rattle.wasm_decode.specs.Entries.{Any, ReadsName};
 ghost use Rattle.wasm_decode.specs.Shapes.{made_of_parts, name_makes};
 

@@ -3,7 +3,7 @@
 ghost use Rattle.std.specs.Prelude.{◌≡◌};
 ghost use Rattle.wasm_types.specs.Standing.{Reads};
 ghost use Rattle.wasm_types.specs.Types.{SpellsValType, SpellsFuncType, SpellsLimits, SpellsTableType, SpellsMutable, SpellsGlobalType};
-ghost use Rattle.wasm_types.proofs.SectionLemmas.{once_type, once_func_type, once_limits, once_table_type, once_global_type};
+ghost use Rattle.text_laws.proofs.SectionLemmas.{once_type, once_func_type, once_limits, once_table_type, once_global_type};
 ghost use Rattle.wasm_decode.specs.Entries.{Any};
 ghost use Rattle.wasm_decode.specs.Shapes.{func_type_makes};
 
@@ -93,7 +93,7 @@ impl Plain for GlobalType {
 
     ghost once = { once_global_type };
 
-    #[tactic(auto, using(wasm_types::proofs::StandingLemmas::then_stands))]
+    #[tactic(auto, using(text_laws::proofs::StandingLemmas::then_stands))]
     fn find(bytes: &[u8], at: usize) -> Option<(GlobalType, usize)> {
         let (kind, middle) = ValType::find(bytes, at)?;
         let (mutable, end) = find_mutable(bytes, middle)?;

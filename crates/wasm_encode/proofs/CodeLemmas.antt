@@ -14,7 +14,7 @@ use Rattle.wasm_types.specs.Plain.{Immediates, nothing, address, never, opcode, 
 use Rattle.wasm_types.specs.Canon.{canon_plain, else_part, canon_code}
 use Rattle.wasm_types.specs.WellFormed.{ProperImmediates, ProperCode}
 use Rattle.wasm_types.proofs.CodeLemmas.{onto-block, onto-loop, onto-if, onto-one}
-use Rattle.wasm_types.proofs.CanonLemmas.{else_long}
+use Rattle.text_laws.proofs.CanonLemmas.{else_long}
 
 -- ---- the steps of the writer
 

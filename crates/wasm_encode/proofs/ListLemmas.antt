@@ -10,9 +10,9 @@ use Rattle.wasm_types.specs.declared.module.Body.{Body}
 use Rattle.wasm_types.specs.declared.module.Module.{Module}
 use Rattle.wasm_types.specs.Numbers.{shortest_u32}
 use Rattle.wasm_types.specs.Canon.{canon_each, canon_counted, canon_instrs, canon_func_type, canon_limits, canon_table_type, canon_import, canon_global, canon_export, canon_elem, canon_run, canon_body, canon_entry, canon_segment, canon_list, canon_start, canon_names, canon}
-use Rattle.wasm_types.proofs.CanonLemmas.{some_u32, some_run}
-use Rattle.wasm_types.proofs.LeastLemmas.{canon_lengths}
-use Rattle.wasm_types.proofs.SizeLemmas.{counted_long, sized_long, func_type_long, elem_long, list_long}
+use Rattle.text_laws.proofs.CanonLemmas.{some_u32, some_run}
+use Rattle.text_laws.proofs.LeastLemmas.{canon_lengths}
+use Rattle.text_laws.proofs.SizeLemmas.{counted_long, sized_long, func_type_long, elem_long, list_long}
 
 -- the text of the items from a place on begins with that of the item there
 pub each-next : {A : Type 0} (f : A → List ℕ) (xs : List A) (k : ℕ) (x : A) → k < length xs → x ≡ get_or xs k x

@@ -9,7 +9,7 @@ use std::alloc::Global;
 use wasm_types::{Module, NoMemory};
 
 /// The canonical spelling of a module, which is shorter than 2^32 bytes. It spells this module and no other
-/// (`wasm_types::law_canon`), and no spelling of it is shorter.
+/// (`text_laws::law_canon`), and no spelling of it is shorter.
 pub fn encode(alloc: Global, m: &Module) -> Result<Vec<u8>, NoMemory>
     requires well_formed { IsWellFormed m.now }
     requires short { length (canon m.now) < 2 ^ 32 }

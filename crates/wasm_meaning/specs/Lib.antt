@@ -12,5 +12,3 @@ pub mod Invoke
 pub mod Laws
 pub mod Longer
 pub mod Appended
-pub mod Kept
-pub mod Start

@@ -1,4 +1,4 @@
-//! What a run is told by.
+//! What a run shows: its events, how it ended, and what the host answers.
 
 use crate::module::Value;
 use sqlite_items::Items;

@@ -8,7 +8,7 @@ use Rattle.wasm_types.specs.Sizes.{HasAtMost}
 use Rattle.wasm_types.specs.Subset.{HasNoFloatIn, WithinLimits, most_read, most_answered, NestsAtMost, most_nesting, IsSealed}
 use Rattle.wasm_types.specs.Validity.{Holds}
 use Rattle.wasm_types.specs.WellFormed.{IsWellFormed}
-use Rattle.wasm_types.proofs.SizeLemmas.{has_at_most_more}
+use Rattle.text_laws.proofs.SizeLemmas.{has_at_most_more}
 
 most_answered_more : (which : LimitKind) → most_read which ≤ most_answered which
 most_answered_more limit.Functions = omega arith

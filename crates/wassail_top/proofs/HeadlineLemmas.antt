@@ -3,7 +3,7 @@ use Rattle.std.proofs.Common.{◌≡◌, ◌≤◌, ℕ, List, length, Option, S
 use Rattle.outside_io.specs.Whole.{TookAll}
 use Rattle.wasm_types.specs.Canon.{canon}
 use Rattle.wasm_types.specs.Subset.{InSubset, most_nesting}
-use Rattle.wasm_types.proofs.LeastLemmas.{canon_is_least}
+use Rattle.text_laws.proofs.LeastLemmas.{canon_is_least}
 use Rattle.wasm_decode.specs.Decode.{Decodes}
 use Rattle.wasm_validate.specs.Admission as admission
 use Rattle.wassail_top.specs.Answers.{AnswersOrder, AnswersBytes, IsDue, most_bytes, name_of}

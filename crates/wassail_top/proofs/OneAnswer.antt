@@ -3,7 +3,7 @@ use Rattle.std.proofs.Common.{◌≡◌, ◌≤◌, ℕ, List, length, sym, ◌�
 use Rattle.std.specs.declared.option.Option.{Option}
 use Rattle.report_text.specs.declared.refusal.Refusal.TheVariants as refusal
 use Rattle.wasm_types.specs.declared.module.Module.{Module}
-use Rattle.wasm_types.proofs.ModuleLemmas.{one_module}
+use Rattle.text_laws.proofs.ModuleLemmas.{one_module}
 use Rattle.wasm_decode.specs.Decode.{Decodes}
 use Rattle.wasm_validate.specs.Admission.{Refuses}
 use Rattle.wassail_top.specs.Answers.{Answers, AnswersOrder, AnswersBytes, AnswersModule, AnswersAdmitted, most_bytes}

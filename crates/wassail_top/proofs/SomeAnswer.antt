@@ -11,7 +11,7 @@ use Rattle.report_text.specs.Texts.{valid_line}
 use Rattle.wasm_types.specs.declared.module.Module.{Module}
 use Rattle.wasm_types.specs.Canon.{canon}
 use Rattle.wasm_types.specs.WellFormed.{IsU8, IsWellFormed}
-use Rattle.wasm_types.proofs.ProperLemmas.{spelled_well_formed}
+use Rattle.text_laws.proofs.ProperLemmas.{spelled_well_formed}
 use Rattle.wassail_top.specs.Answers.{IsText, HasAnswer, AnswersOrder, AnswersBytes, AnswersModule, AnswersAdmitted, bytes_alone, most_bytes}
 use Rattle.wassail_top.specs.Orders.{Order, most_name_bytes}
 use Rattle.wassail_top.specs.Orders.Order.{check, rewrite, slice}

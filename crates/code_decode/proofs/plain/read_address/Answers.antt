@@ -1,5 +1,5 @@
 use Rattle.wasm_types.specs.Numbers.{SpellsU32}
-use Rattle.wasm_types.proofs.StandingLemmas.{both_stands}
+use Rattle.text_laws.proofs.StandingLemmas.{both_stands}
 use Rattle.code_decode.proofs.PlainLemmas.{no_offset}
 use Rattle.code_decode.proofs.plain.read_address.Goals as goal
 

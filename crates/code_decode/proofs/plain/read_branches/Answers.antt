@@ -1,7 +1,7 @@
 use Rattle.wasm_types.specs.Numbers.{SpellsU32}
 use Rattle.wasm_types.specs.Parts.{Counted}
-use Rattle.wasm_types.proofs.Once.{once_u32, once_counted}
-use Rattle.wasm_types.proofs.StandingLemmas.{both_stands, none_both_second}
+use Rattle.text_laws.proofs.Once.{once_u32, once_counted}
+use Rattle.text_laws.proofs.StandingLemmas.{both_stands, none_both_second}
 use Rattle.code_decode.proofs.PlainLemmas.{stop_first}
 use Rattle.code_decode.proofs.plain.read_branches.Goals as goal
 

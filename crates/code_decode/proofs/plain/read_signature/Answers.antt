@@ -1,7 +1,7 @@
 use Rattle.std.proofs.Common.{ℕ, subst}
 use Rattle.wasm_types.specs.Numbers.{SpellsU32}
 use Rattle.wasm_types.specs.Standing.{Stands}
-use Rattle.wasm_types.proofs.StandingLemmas.{both_stands}
+use Rattle.text_laws.proofs.StandingLemmas.{both_stands}
 use Rattle.code_decode.proofs.PlainLemmas.{no_table, not_zero_table}
 use Rattle.code_decode.proofs.plain.read_signature.Goals as goal
 

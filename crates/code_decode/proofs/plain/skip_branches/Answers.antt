@@ -1,7 +1,7 @@
 use Rattle.wasm_types.specs.Numbers.{SpellsU32}
 use Rattle.wasm_types.specs.Parts.{Counted}
-use Rattle.wasm_types.proofs.Once.{once_u32, once_counted}
-use Rattle.wasm_types.proofs.StandingLemmas.{none_both_first}
+use Rattle.text_laws.proofs.Once.{once_u32, once_counted}
+use Rattle.text_laws.proofs.StandingLemmas.{none_both_first}
 use Rattle.code_decode.proofs.PlainLemmas.{skips_both}
 use Rattle.code_decode.proofs.plain.skip_branches.Goals as goal
 

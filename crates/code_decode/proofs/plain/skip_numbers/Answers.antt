@@ -2,8 +2,8 @@ use Rattle.std.proofs.Common.{◌-◌, ◌+◌, ℕ, List, [], ◌∷◌, ◌++�
 use Rattle.wasm_types.specs.Numbers.{SpellsU32}
 use Rattle.wasm_types.specs.Standing.{Stands}
 use Rattle.wasm_types.specs.Parts.{EachOf}
-use Rattle.wasm_types.proofs.Once.{once_u32}
-use Rattle.wasm_types.proofs.StandingLemmas.{no_items_yet, one_more_stands, none_of_more, none_of_any, none_of_same, counted_stands, none_counted_first, none_counted_second}
+use Rattle.text_laws.proofs.Once.{once_u32}
+use Rattle.text_laws.proofs.StandingLemmas.{no_items_yet, one_more_stands, none_of_more, none_of_any, none_of_same, counted_stands, none_counted_first, none_counted_second}
 use Rattle.code_decode.proofs.plain.skip_numbers.Goals as goal
 
 pub loop-k-init : goal.loop-k-init

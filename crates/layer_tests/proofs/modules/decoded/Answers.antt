@@ -1,9 +1,9 @@
 use Rattle.std.proofs.Common.{arith}
 use Rattle.std.proofs.lemmas.List.Elements.{All-from_get_or}
 use Rattle.wasm_types.specs.WellFormed.{IsU8}
-use Rattle.wasm_types.proofs.LeastLemmas.{canon_is_least}
-use Rattle.wasm_types.proofs.ProperLemmas.{spelled_well_formed}
-use Rattle.wasm_types.proofs.SizeLemmas.{has_at_most, has_at_most_more}
+use Rattle.text_laws.proofs.LeastLemmas.{canon_is_least}
+use Rattle.text_laws.proofs.ProperLemmas.{spelled_well_formed}
+use Rattle.text_laws.proofs.SizeLemmas.{has_at_most, has_at_most_more}
 use Rattle.layer_tests.proofs.modules.decoded.Goals as goal
 
 pub returns-in-Ok-clause-well_formed : goal.returns-in-Ok-clause-well_formed

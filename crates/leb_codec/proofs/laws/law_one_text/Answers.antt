@@ -1,4 +1,4 @@
-use Rattle.wasm_types.proofs.NumberLemmas.{one_unsigned, one_signed}
+use Rattle.text_laws.proofs.NumberLemmas.{one_unsigned, one_signed}
 use Rattle.leb_codec.proofs.laws.law_one_text.Goals as goal
 
 pub returns : goal.returns

@@ -1,5 +1,5 @@
 use Rattle.std.proofs.Common.{arith}
-use Rattle.wasm_types.proofs.NumberLemmas.{signed_spells}
+use Rattle.text_laws.proofs.NumberLemmas.{signed_spells}
 use Rattle.leb_codec.proofs.Writing.{signed_is_least}
 use Rattle.leb_codec.proofs.laws.law_shortest_signed.Goals as goal
 

@@ -1,4 +1,4 @@
-use Rattle.wasm_types.proofs.NumberLemmas.{shortest_spells, shortest_is_least}
+use Rattle.text_laws.proofs.NumberLemmas.{shortest_spells, shortest_is_least}
 use Rattle.leb_codec.proofs.laws.law_shortest_unsigned.Goals as goal
 
 pub returns : goal.returns

@@ -1,5 +1,5 @@
 use Rattle.wasm_types.specs.Numbers.{SpellsU32}
-use Rattle.wasm_types.proofs.ModuleLemmas.{none_whole}
+use Rattle.text_laws.proofs.ModuleLemmas.{none_whole}
 use Rattle.wasm_decode.proofs.contents.read_start.Goals as goal
 
 pub returns-in_err-func : goal.returns-in_err-func

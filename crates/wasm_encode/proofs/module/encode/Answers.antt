@@ -1,7 +1,7 @@
 use Rattle.wasm_types.specs.Numbers.{shortest_u32}
 use Rattle.wasm_types.specs.Canon.{canon_func_type, canon_limits, canon_table_type, canon_import, canon_global, canon_export, canon_elem, canon_entry, canon_segment}
 use Rattle.wasm_types.specs.WellFormed.{ProperImport, ProperGlobal, ProperExport, ProperElem, ProperBody, ProperSegment}
-use Rattle.wasm_types.proofs.CanonLemmas.{some_u32, some_func_type, some_import, some_table_type, some_limits, some_global, some_export, some_elem, some_entry, some_segment}
+use Rattle.text_laws.proofs.CanonLemmas.{some_u32, some_func_type, some_import, some_table_type, some_limits, some_global, some_export, some_elem, some_entry, some_segment}
 use Rattle.wasm_encode.proofs.ListLemmas.{list_few, list_short, list_proper, sections_short}
 use Rattle.wasm_encode.proofs.module.encode.Goals as goal
 

@@ -1,8 +1,8 @@
 use Rattle.std.proofs.Common.{arith}
 use Rattle.std.proofs.lemmas.List.Elements.{All-from_get_or}
 use Rattle.wasm_types.specs.WellFormed.{IsU8}
-use Rattle.wasm_types.proofs.LeastLemmas.{canon_is_least}
-use Rattle.wasm_types.proofs.ProperLemmas.{spelled_well_formed}
+use Rattle.text_laws.proofs.LeastLemmas.{canon_is_least}
+use Rattle.text_laws.proofs.ProperLemmas.{spelled_well_formed}
 use Rattle.wassail_top.proofs.due.answer_bytes.Goals as goal
 
 pub answer_module-requires-clause-well_formed : goal.answer_module-requires-clause-well_formed

@@ -1,5 +1,5 @@
 use Rattle.std.proofs.Common.{arith}
-use Rattle.wasm_types.proofs.SizeLemmas.{has_at_most, has_at_most_more}
+use Rattle.text_laws.proofs.SizeLemmas.{has_at_most, has_at_most_more}
 use Rattle.wassail_top.specs.Answers.{most_bytes}
 use Rattle.wassail_top.proofs.due.answer_module.Goals as goal
 

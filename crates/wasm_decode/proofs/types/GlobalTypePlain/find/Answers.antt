@@ -1,6 +1,6 @@
 use Rattle.wasm_types.specs.Types.{SpellsValType, SpellsMutable}
-use Rattle.wasm_types.proofs.SectionLemmas.{once_type}
-use Rattle.wasm_types.proofs.StandingLemmas.{none_both_second}
+use Rattle.text_laws.proofs.SectionLemmas.{once_type}
+use Rattle.text_laws.proofs.StandingLemmas.{none_both_second}
 use Rattle.wasm_decode.proofs.types.GlobalTypePlain.find.Goals as goal
 
 pub returns-in_err-mutable : goal.returns-in_err-mutable

@@ -1,0 +1,5 @@
+mod Runs
+mod TypedRuns
+mod RowsOfRuns
+mod Cuts
+mod Slices

@@ -1,0 +1,12 @@
+pub mod NumberLemmas
+pub mod Once
+pub mod StandingLemmas
+pub mod OpcodeLemmas
+pub mod CodeUnique
+pub mod SectionLemmas
+pub mod ModuleLemmas
+pub mod CanonLemmas
+pub mod CanonModule
+pub mod LeastLemmas
+pub mod SizeLemmas
+pub mod ProperLemmas

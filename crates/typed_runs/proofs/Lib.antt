@@ -1,0 +1,9 @@
+pub mod MarkedCode
+pub mod Bytes
+pub mod States
+pub mod HostsKept
+pub mod ActionTyping
+pub mod ActionsKept
+pub mod Sequences
+pub mod OwnCalls
+pub mod Started

@@ -1,5 +1,0 @@
-use Rattle.wasm_types.proofs.ProperLemmas.{spelled_well_formed}
-use Rattle.wasm_types.proofs.laws.law_spelled_is_well_formed.Goals as goal
-
-pub returns : goal.returns
-returns c = spelled_well_formed
