@@ -3,3 +3,4 @@ mod TypedRuns
 mod RowsOfRuns
 mod Cuts
 mod Slices
+mod Bodies
