@@ -1,6 +1,6 @@
 -- Ranges of bytes, and numbers in them.
-use Rattle.std.proofs.Common.{◌≡◌, ℕ, zero, suc, ◌+◌, ◌-◌, ◌*◌, ◌/◌, ◌%◌, ◌^◌, ◌<◌, ◌≤◌, List, [], ◌∷◌, ◌++◌, length, take, drop, replicate, get_or, set, All, refl, sym, ap, ap₂, ◌∙◌, arith, mod-lt, min}
-use Rattle.std.specs.Int.{w64, from_le_bytes, to_le_bytes, bytes_low_first, byte_at}
+use Rattle.std.proofs.Common.{◌≡◌, ℕ, zero, suc, ◌+◌, ◌-◌, ◌*◌, ◌/◌, ◌%◌, ◌^◌, ◌<◌, ◌≤◌, List, [], ◌∷◌, ◌++◌, length, take, drop, replicate, get_or, set, All, refl, sym, ap, ap₂, ◌∙◌, arith, mod-lt}
+use Rattle.std.specs.Int.{w64, from_le_bytes, to_le_bytes, bytes_low_first}
 use Rattle.std.proofs.lemmas.List.{append_assoc, drop-drop, drop_more, take_at, length-take-le, length-drop, length-append, length-replicate}
 use Rattle.std.proofs.Math.Nat.{div-div-eq-div-mul, pow-suc}
 use Rattle.std.proofs.lemmas.List.Edits.{sets, sets-eq}
@@ -132,9 +132,12 @@ pub padded_number : (j : ℕ) (bs xs : List ℕ) → j ≤ 8 → length xs ≡ j
 padded_number j bs xs le long same =
     let rest : drop j (replicate 8 0) ≡ replicate (8 - j) 0 = zeros_left j 8 le in
     let e : bs ≡ xs ++ replicate (8 - j) 0 = same ∙ ap (λ l. xs ++ l) rest in
-    let n : length bs ≡ 8 = ap length e ∙ simp (length-append, length-replicate) (omega arith) in
+    let n : length bs ≡ 8 = ap length e ∙ (length-append xs (replicate (8 - j) 0) ∙ total j xs le long) in
     number_of_eight bs n ∙ (ap number_from e ∙ number_padded xs (8 - j))
   where
+    total : (j : ℕ) (xs : List ℕ) → j ≤ 8 → length xs ≡ j → length xs + length (replicate {A = ℕ} (8 - j) 0) ≡ 8
+    total j xs le long = omega (arith, length-replicate {A = ℕ} (8 - j) 0)
+
     zeros_left : (j k : ℕ) → j ≤ k → drop j (replicate {A = ℕ} k 0) ≡ replicate (k - j) 0
     zeros_left zero k le = ap (λ m. replicate {A = ℕ} m 0) (omega arith)
     zeros_left (suc j) zero le = absurd (omega arith)

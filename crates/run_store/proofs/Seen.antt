@@ -1,5 +1,5 @@
 -- What the host sees of a global, by its number.
-use Rattle.std.proofs.Common.{◌≡◌, ℕ, zero, suc, ◌+◌, ◌<◌, ◌≤◌, Bool, true, false, ◌&&◌, ◌||◌, ◌==◌, List, [], ◌∷◌, ◌++◌, length, map, get_or, nat_lt, nat_le, Option, Some, None, refl, sym, ap, ◌∙◌, subst, cond, rules, arith}
+use Rattle.std.proofs.Common.{◌≡◌, ℕ, zero, suc, ◌+◌, ◌<◌, Bool, true, false, ◌&&◌, ◌||◌, ◌==◌, List, [], ◌∷◌, ◌++◌, length, map, get_or, nat_lt, Some, None, refl, ap, ◌∙◌, subst, cond, rules, arith}
 use Rattle.std.proofs.lemmas.Bool.Decides.{nat_tests}
 use Rattle.std.specs.Prelude.{ℤ, slice_get}
 use Rattle.std.specs.List.{list_all, list_any}
@@ -46,7 +46,7 @@ seen_at m (y ∷ gs) j zero g z h =
     let e : y ≡ g = cc in
     let n : j ≡ j + 0 = omega arith in
     subst (λ (x : GlobalType). global_fits (slice_get (seen_from m j (y ∷ gs)) 0) z ≡ (global_visible m (j + 0) x && in_range x.kind z)) e
-        (subst (λ i. global_fits (Some (cond (global_visible m j y) (Some y.kind) None)) z ≡ (global_visible m i y && in_range y.kind z)) n (cases_fit (global_visible m j y) y z))
+    (subst (λ i. global_fits (Some (cond (global_visible m j y) (Some y.kind) None)) z ≡ (global_visible m i y && in_range y.kind z)) n (cases_fit (global_visible m j y) y z))
 seen_at m (y ∷ gs) j (suc k) g z h =
     seen_at m gs (j + 1) k g z h ∙ ap (λ i. global_visible m i g && in_range g.kind z) (omega arith)
 

@@ -8,7 +8,9 @@ ghost use Rattle.wasm_types.specs.Spaces.{global_import, globals_of, import_coun
 ghost use Rattle.run_store.specs.Fits.{FindsGlobal, fits_import};
 
 use sqlite_items::Items;
-use wasm_types::{Export, ExportKind, GlobalType, Import, ImportKind, Module, Reply, ValType, ValidModule};
+use wasm_types::{
+    Export, ExportKind, GlobalType, Import, ImportKind, Module, Reply, ValType, ValidModule,
+};
 
 /// Whether a reply fits the imported function of that number, where the memory has so many pages: its result and the values for globals are in range, it
 /// writes only what the host sees, and its bytes lie within the memory.
@@ -127,7 +129,11 @@ fn is_global_fit(m: &Module, global: u32, number: i128) -> bool
     match imported_global(m.imports.as_slice(), global) {
         Ok(kind) => is_seen_fit(kind, true, number),
         Err(own) => match m.globals.get(own as usize) {
-            Some(own) => is_seen_fit(own.kind, exports_global(m.exports.as_slice(), global), number),
+            Some(own) => is_seen_fit(
+                own.kind,
+                exports_global(m.exports.as_slice(), global),
+                number,
+            ),
             None => false,
         },
     }
@@ -137,7 +143,9 @@ fn is_global_fit(m: &Module, global: u32, number: i128) -> bool
 fn are_globals_fit(m: &Module, writes: &[(u32, i128)]) -> bool
     ensures { result ≡ list_all (λ w. global_fits (slice_get (seen_from m.now 0 (globals_of m.now)) w.0) w.1) writes.now }
 {
-    writes.iter().all(|write| is_global_fit(m, write.0, write.1))
+    writes
+        .iter()
+        .all(|write| is_global_fit(m, write.0, write.1))
 }
 
 /// Whether so many bytes from an address on lie within a memory of this length that the host sees.

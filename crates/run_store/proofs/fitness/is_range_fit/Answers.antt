@@ -1,4 +1,4 @@
-use Rattle.std.proofs.Common.{◌∙◌, ℕ, ◌+◌, nat_le, length, sym, ap, arith}
+use Rattle.std.proofs.Common.{◌∙◌, ◌+◌, nat_le, length, sym, ap, arith}
 use Rattle.wasm_types.specs.Hosts.{bytes_fit}
 use Rattle.run_store.proofs.Seen.{range_fits}
 use Rattle.run_store.proofs.fitness.is_range_fit.Goals as goal
