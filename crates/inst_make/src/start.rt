@@ -3,11 +3,11 @@
 ghost use Rattle.std.specs.Prelude.{◌≡◌, map};
 ghost use Rattle.wasm_types.specs.Spaces.{global_import, imported};
 ghost use Rattle.wasm_meaning.specs.Fits.{HaveTypes, global_type};
-ghost use Rattle.inst_make.specs.declared.instantiate.InstEnd.TheVariants as InstEnd;
+ghost use Rattle.inst_make.specs.declared.start.InstEnd.TheVariants as InstEnd;
 ghost use Rattle.inst_make.specs.Starts.{Instantiates};
 
 use crate::constants::all_globals;
-use crate::elems::{first_elem_out, write_elems};
+use crate::elems::{empty_table, first_elem_out, write_elems};
 use crate::instance::Instance;
 use crate::segments::{first_segment_out, write_segments};
 use crate::spaces::{memory_limits, table_size};
@@ -71,18 +71,19 @@ pub fn instantiate(
         return Err(InstEnd::TooManyPages { min: memory.min });
     }
     let globals = all_globals(alloc, globals, m.globals.as_slice())?;
+    let values = globals.as_slice();
     let size = table_size(m);
-    if let Some(k) = first_elem_out(m.elems.as_slice(), globals.as_slice(), size) {
+    if let Some(k) = first_elem_out(m.elems.as_slice(), values, size) {
         return Err(InstEnd::ElemOut { k });
     }
     let long = 65536 * u64::from(memory.min);
-    if let Some(k) = first_segment_out(m.segments.as_slice(), globals.as_slice(), long) {
+    if let Some(k) = first_segment_out(m.segments.as_slice(), values, long) {
         return Err(InstEnd::DataOut { k });
     }
     let mut store = PageStore::make(alloc, memory.min, memory.max, cap)?;
-    let mut entries = vec![in alloc; None; size as usize]?;
-    write_elems(entries.as_mut_slice(), m.elems.as_slice(), globals.as_slice());
-    write_segments(&mut store, m.segments.as_slice(), globals.as_slice());
+    let mut entries = empty_table(alloc, size)?;
+    write_elems(entries.as_mut_slice(), m.elems.as_slice(), values);
+    write_segments(&mut store, m.segments.as_slice(), values);
     Ok(Instance {
         globals,
         store,
