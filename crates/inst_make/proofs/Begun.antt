@@ -28,10 +28,10 @@ pub record Reads (x m : Module) (gs : List Value) (pages : ℕ) (max : Option �
   pub size_is : size ≡ least (tables_of m)
   pub all_is : all ≡ first_globals m gs
 
-pub reads : (x m : Module) (gs : List Value) (own : List GlobalDef) (pages : ℕ) (max : Option ℕ) (size : ℕ) (all values : List Value)
+pub reads : (gs : List Value) {x m : Module} {own : List GlobalDef} {pages : ℕ} {max : Option ℕ} {size : ℕ} {all values : List Value}
     → x ≡ m → own ≡ x.globals → pages ≡ least (mems_of x) → max ≡ declared_max (mems_of x) → size ≡ least (tables_of x) → all ≡ with_own gs own → values ≡ all
     → Reads x m gs pages max size values
-reads x m gs own pages max size all values same own_is pages_is max_is size_is all_is values_is = record {
+reads gs same own_is pages_is max_is size_is all_is values_is = record {
   same = same;
   pages_is = pages_is ∙ ap (λ (y : Module). least (mems_of y)) same;
   max_is = max_is ∙ ap (λ (y : Module). declared_max (mems_of y)) same;
@@ -39,29 +39,37 @@ reads x m gs own pages max size all values same own_is pages_is max_is size_is a
   all_is = values_is ∙ (all_is ∙ ap (with_own gs) (own_is ∙ ap (λ (y : Module). y.globals) same));
 }
 
-module _ (x m : Module) (gs : List Value) (most : ℕ) (given : Replies) (pages : ℕ) (max : Option ℕ) (size : ℕ) (all : List Value) (read : Reads x m gs pages max size all) where
+module _ {x m : Module} {gs : List Value} {pages : ℕ} {max : Option ℕ} {size : ℕ} {all : List Value} (read : Reads x m gs pages max size all)
+    (most : ℕ) (given : Replies) where
+  elems_are : {es : List Elem} → es ≡ x.elems → es ≡ m.elems
+  elems_are e = e ∙ ap (λ (y : Module). y.elems) read.same
+
+  segments_are : {ds : List DataSegment} → ds ≡ x.segments → ds ≡ m.segments
+  segments_are e = e ∙ ap (λ (y : Module). y.segments) read.same
+
   -- ---- what the tests of segments tell
 
   pub elems_fit : (es : List Elem) → es ≡ x.elems → All (ElemWithin all size) es → All (ElemFits (bare_of m gs most given)) m.elems
   elems_fit es es_is h =
       let a = subst (λ g. All (ElemWithin g size) es) read.all_is h in
-      let n : size ≡ length (replicate {A = Option ℕ} (least (tables_of m)) None) = read.size_is ∙ sym (length-replicate {A = Option ℕ} (least (tables_of m)) None) in
+      let least_size = least (tables_of m) in
+      let n : size ≡ length (replicate {A = Option ℕ} least_size None) = read.size_is ∙ sym (length-replicate {A = Option ℕ} least_size None) in
       let b = subst (λ k. All (ElemWithin (first_globals m gs) k) es) n a in
-      subst (λ (l : List Elem). All (ElemFits (bare_of m gs most given)) l) (es_is ∙ ap (λ (y : Module). y.elems) read.same) b
+      subst (λ (l : List Elem). All (ElemFits (bare_of m gs most given)) l) (elems_are es_is) b
 
   pub segments_fit : (long : ℕ) (ds : List DataSegment) → long ≡ pages → ds ≡ x.segments → All (SegmentWithin all (65536 * long)) ds
       → All (SegmentFits (bare_of m gs most given)) m.segments
   segments_fit long ds long_is ds_is h =
       let a = subst (λ g. All (SegmentWithin g (65536 * long)) ds) read.all_is h in
       let b = subst (λ n. All (SegmentWithin (first_globals m gs) (65536 * n)) ds) (long_is ∙ read.pages_is) a in
-      subst (λ (l : List DataSegment). All (SegmentFits (bare_of m gs most given)) l) (ds_is ∙ ap (λ (y : Module). y.segments) read.same) b
+      subst (λ (l : List DataSegment). All (SegmentFits (bare_of m gs most given)) l) (segments_are ds_is) b
 
   pub segment_out : (long : ℕ) (ds : List DataSegment) (k : ℕ) → long ≡ pages → ds ≡ x.segments → IsFirstWithout (SegmentWithin all (65536 * long)) ds k
       → IsFirstWithout (SegmentFits (bare_of m gs most given)) m.segments k
   segment_out long ds k long_is ds_is h =
       let a = subst (λ g. IsFirstWithout (SegmentWithin g (65536 * long)) ds k) read.all_is h in
       let b = subst (λ n. IsFirstWithout (SegmentWithin (first_globals m gs) (65536 * n)) ds k) (long_is ∙ read.pages_is) a in
-      subst (λ (l : List DataSegment). IsFirstWithout (SegmentFits (bare_of m gs most given)) l k) (ds_is ∙ ap (λ (y : Module). y.segments) read.same) b
+      subst (λ (l : List DataSegment). IsFirstWithout (SegmentFits (bare_of m gs most given)) l k) (segments_are ds_is) b
 
   -- ---- the start
 
@@ -81,7 +89,8 @@ module _ (x m : Module) (gs : List Value) (most : ℕ) (given : Replies) (pages 
   -- the memory may begin with these pages
   pub allowed : IsValid m → CanStart m gs most (Script given.replies) → pages ≤ most_pages max most
   allowed valid can =
-      subst (λ n. n ≤ most_pages max most) (sym read.pages_is) (subst (λ o. least (mems_of m) ≤ most_pages o most) (sym read.max_is) (least_is_allowed valid can))
+      let h = subst (λ o. least (mems_of m) ≤ most_pages o most) (sym read.max_is) (least_is_allowed valid can) in
+      subst (λ n. n ≤ most_pages max most) (sym read.pages_is) h
 
   -- the memory and the table with the segments written
   abbrev pub first_store : Paged
@@ -90,16 +99,17 @@ module _ (x m : Module) (gs : List Value) (most : ℕ) (given : Replies) (pages 
   abbrev pub first_table : List (Option ℕ)
   first_table = table_after all m.elems (replicate size None)
 
-  pub store_is : (ds : List DataSegment) (made written : Paged) → ds ≡ x.segments → made ≡ record { pages = pages; bytes = zero_pages pages; max = max; cap = most }
-      → written ≡ record made { bytes = data_after all ds made.bytes } → written ≡ first_store
+  pub store_is : (ds : List DataSegment) (made written : Paged) → ds ≡ x.segments
+      → made ≡ record { pages = pages; bytes = zero_pages pages; max = max; cap = most } → written ≡ record made { bytes = data_after all ds made.bytes } → written ≡ first_store
   store_is ds made written ds_is made_is written_is =
       written_is
       ∙ (ap (λ (p : Paged). record p { bytes = data_after all ds p.bytes }) made_is
-      ∙ ap (λ (l : List DataSegment). record { pages = pages; bytes = data_after all l (zero_pages pages); max = max; cap = most }) (ds_is ∙ ap (λ (y : Module). y.segments) read.same))
+      ∙ ap (λ (l : List DataSegment). record { pages = pages; bytes = data_after all l (zero_pages pages); max = max; cap = most }) (segments_are ds_is))
 
-  pub table_is : (es : List Elem) (empty written : List (Option ℕ)) → es ≡ x.elems → empty ≡ replicate size None → written ≡ table_after all es empty → written ≡ first_table
+  pub table_is : (es : List Elem) (empty written : List (Option ℕ)) → es ≡ x.elems → empty ≡ replicate size None
+      → written ≡ table_after all es empty → written ≡ first_table
   table_is es empty written es_is empty_is written_is =
-      written_is ∙ (ap (table_after all es) empty_is ∙ ap (λ (l : List Elem). table_after all l (replicate size None)) (es_is ∙ ap (λ (y : Module). y.elems) read.same))
+      written_is ∙ (ap (table_after all es) empty_is ∙ ap (λ (l : List Elem). table_after all l (replicate size None)) (elems_are es_is))
 
   -- a state by what an instance holds
   abbrev shape : List HostCall → List Value → Paged → List (Option ℕ) → Replies → State
@@ -116,7 +126,8 @@ module _ (x m : Module) (gs : List Value) (most : ℕ) (given : Replies) (pages 
 
   abbrev shape_of : List HostCall → List Value → ℕ → ℕ → State
   shape_of calls globals n k =
-      shape calls globals (record { pages = n; bytes = data_after globals m.segments (zero_pages n); max = max; cap = most }) (table_after globals m.elems (replicate k None)) given
+      let store : Paged = record { pages = n; bytes = data_after globals m.segments (zero_pages n); max = max; cap = most } in
+      shape calls globals store (table_after globals m.elems (replicate k None)) given
 
   pub begun : (inst : Instance) → IsValid m → CanStart m gs most (Script given.replies)
       → inst.globals.items ≡ all → inst.store ≡ first_store → inst.entries.items ≡ first_table → inst.script ≡ given → inst.spent ≡ false

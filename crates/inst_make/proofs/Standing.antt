@@ -44,8 +44,8 @@ pub stands_fit : (m : Module) (inst : Instance) (s : State) → IsInstance m ins
 stands_fit m inst s is h = subst (Fits m) (sym h.same) ((is h.unspent).fits s.host_calls s.turns)
 
 -- an instance is ready where a state that it stands for fits
-pub ready_by : (m : Module) (inst : Instance) (s : State) → inst.store.max ≡ declared_max (mems_of m) → inst.store.pages ≤ most_pages inst.store.max inst.store.cap
-    → s ≡ state_of inst s.host_calls s.turns → Fits m s → IsReady m inst
+pub ready_by : (m : Module) (inst : Instance) (s : State) → inst.store.max ≡ declared_max (mems_of m)
+    → inst.store.pages ≤ most_pages inst.store.max inst.store.cap → s ≡ state_of inst s.host_calls s.turns → Fits m s → IsReady m inst
 ready_by m inst s max below same h = record {
   max = max;
   below = below;

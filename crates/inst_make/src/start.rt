@@ -11,7 +11,7 @@ use crate::elems::{empty_table, first_elem_out, write_elems};
 use crate::instance::Instance;
 use crate::segments::{first_segment_out, write_segments};
 use crate::spaces::{memory_limits, table_size};
-use run_store::{PageStore, Script};
+use run_store::{PAGE_BYTES, PageStore, Script};
 use std::alloc::{AllocError, Global};
 use thiserror::Error;
 use wasm_types::{NoMemory, ValidModule, Value};
@@ -76,7 +76,7 @@ pub fn instantiate(
     if let Some(k) = first_elem_out(m.elems.as_slice(), values, size) {
         return Err(InstEnd::ElemOut { k });
     }
-    let long = 65536 * u64::from(memory.min);
+    let long = PAGE_BYTES * u64::from(memory.min);
     if let Some(k) = first_segment_out(m.segments.as_slice(), values, long) {
         return Err(InstEnd::DataOut { k });
     }

@@ -7,6 +7,7 @@ ghost use Rattle.wasm_types.specs.Hosts.{bytes_fit, global_fits, in_range, is_gl
 ghost use Rattle.wasm_types.specs.Spaces.{global_import, globals_of, import_count, imported, memory_import};
 ghost use Rattle.run_store.specs.Fits.{FindsGlobal, fits_import};
 
+use crate::pages::PAGE_BYTES;
 use sqlite_items::Items;
 use wasm_types::{
     Export, ExportKind, GlobalType, Import, ImportKind, Module, Reply, ValType, ValidModule,
@@ -23,7 +24,7 @@ pub fn fits(m: &ValidModule, import: u32, reply: &Reply, pages: u32) -> bool
         return false;
     };
     let visible = is_memory_visible(m);
-    let long = 65536 * u64::from(pages);
+    let long = PAGE_BYTES * u64::from(pages);
     is_result_fit(kind.results.as_slice(), reply.result)
         && are_globals_fit(m, reply.globals.as_slice())
         && are_bytes_fit(visible, long, reply.bytes.as_slice())
