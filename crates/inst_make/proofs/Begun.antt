@@ -100,7 +100,8 @@ module _ {x m : Module} {gs : List Value} {pages : ℕ} {max : Option ℕ} {size
   first_table = table_after all m.elems (replicate size None)
 
   pub store_is : (ds : List DataSegment) (made written : Paged) → ds ≡ x.segments
-      → made ≡ record { pages = pages; bytes = zero_pages pages; max = max; cap = most } → written ≡ record made { bytes = data_after all ds made.bytes } → written ≡ first_store
+      → made ≡ record { pages = pages; bytes = zero_pages pages; max = max; cap = most }
+      → written ≡ record made { bytes = data_after all ds made.bytes } → written ≡ first_store
   store_is ds made written ds_is made_is written_is =
       written_is
       ∙ (ap (λ (p : Paged). record p { bytes = data_after all ds p.bytes }) made_is

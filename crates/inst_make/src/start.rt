@@ -54,7 +54,7 @@ impl From<AllocError> for InstEnd {
 /// tested before any is written; where a later one overlaps an earlier one, the later one's contents stay. There may be no more pages than the cap.
 ///
 /// The refusals come in this order: the memory begins with more pages than the cap; an element segment passes the end of the table; a data segment passes the
-/// end of the memory. The first such segment is told.
+/// end of the memory. The first such segment is told. A refusal consumes the script.
 pub fn instantiate(
     alloc: Global,
     m: &ValidModule,

@@ -29,7 +29,8 @@ returns c =
     (elems_fit read c.args.cap c.args.script _ c.as_slice-2.ensures c.in_default.ensures)
     (segments_fit read c.args.cap c.args.script _ _ c.from-long.ensures c.as_slice-3.ensures c.in_default-first_segment_out.ensures) in
     let store = store_is read c.args.cap c.args.script _ _ _ c.as_slice-5.ensures c.in_ok-store.ensures c.write_segments.ensures in
-    let table = table_is read c.args.cap c.args.script _ _ _ c.as_slice-4.ensures (c.as_mut_slice.ensures.value ∙ c.in_ok-entries.ensures) c.write_elems.ensures in
+    let empty = c.as_mut_slice.ensures.value ∙ c.in_ok-entries.ensures in
+    let table = table_is read c.args.cap c.args.script _ _ _ c.as_slice-4.ensures empty c.write_elems.ensures in
     let long : length c.write_elems.new.entries ≡ c.in_ok-entries.entries.len = omega arith in (
       can,
       begun read c.args.cap c.args.script _ c.module-m.ensures.sealed.valid can (sym c.as_slice-values.ensures.value) store
