@@ -1,0 +1,4 @@
+pub mod Standing
+mod Writes
+mod FirstLimits
+mod Begun
