@@ -4,12 +4,23 @@ use Rattle.std.specs.List.{Contains}
 use Rattle.wasm_types.specs.declared.module.Body.{Body}
 use Rattle.wasm_types.specs.declared.place.Node.{Node}
 use Rattle.wasm_types.specs.declared.place.Node.TheVariants as node
-use Rattle.wasm_types.specs.Code.{code_of}
+use Rattle.wasm_types.specs.Code.{code_of, nest}
+use Rattle.wasm_types.specs.declared.place.LimitKind.TheVariants as limit
+use Rattle.wasm_types.specs.Sizes.{positions}
+use Rattle.wasm_types.specs.Subset.{most_answered, most_nesting}
 use Rattle.wasm_types.specs.Marked.{Marked, marked}
 use Rattle.wasm_types.specs.Actions.{Callees}
 use Rattle.wasm_types.specs.Labels.{first}
 use Rattle.wasm_types.specs.Sites.{Site, Sites, IsSite, HasJoin, Leads, body_sites}
 use Rattle.block_cfg.specs.Graph.{Graph, row_of, EachOnce}
+use Rattle.block_cfg.specs.Walk.{LabelsExist}
+
+-- A body of which the points are told: each label of a branch exists, and the body nests no deeper and has no more positions than that of a module that
+-- is answered.
+pub record HasPoints (body : Body) : Type 0 where
+  pub labels : LabelsExist 1 (code_of body.code)
+  pub nesting : nest (code_of body.code) ≤ most_nesting
+  pub positions : positions body.code ≤ most_answered limit.Positions
 
 -- the live positions, the joins of live blocks, loops and ifs, and the end of the body
 abbrev pub IsPoint : Sites → Node → Type 0

@@ -19,15 +19,15 @@ pub fn point_number(point: Point) -> usize
 }
 
 /// The point of a number.
-pub fn point_of_number(number: usize) -> Point
-    requires { number < 2 ^ 33 }
-    ensures { number result ≡ number }
+pub fn point_of_number(index: usize) -> Point
+    requires { index < 2 ^ 33 }
+    ensures { number result ≡ index }
 {
-    if number == 0 {
+    if index == 0 {
         return Point::Exit;
     }
-    let pos = Pos(((number - 1) / 2) as u32);
-    if number % 2 == 1 {
+    let pos = Pos(((index - 1) / 2) as u32);
+    if index % 2 == 1 {
         Point::At(pos)
     } else {
         Point::Join(pos)
@@ -53,6 +53,18 @@ impl Model for Cfg {
 }
 
 impl Cfg {
+    /// The points and their lists, in the order of the points' numbers.
+    pub(crate) fn of(points: Vec<Point>, next: Vec<Items<Point>>, before: Vec<Items<Point>>) -> Cfg
+        requires { IsNumbered (record { points = points.items; next = next.items; before = before.items }) }
+        ensures { result ≡ record { points = points.items; next = next.items; before = before.items } }
+    {
+        Cfg {
+            points,
+            next,
+            before,
+        }
+    }
+
     /// All points, each once, the body's first point first.
     pub fn points(&self) -> &[Point]
         ensures { result.now ≡ self.now.points }
