@@ -1,2 +1,5 @@
 pub mod SiteLemmas
 pub mod MemberLemmas
+pub mod TargetLemmas
+pub mod WalkLemmas
+pub mod BeforeLemmas
