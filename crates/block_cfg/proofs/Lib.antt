@@ -3,3 +3,4 @@ pub mod MemberLemmas
 pub mod TargetLemmas
 pub mod WalkLemmas
 pub mod BeforeLemmas
+pub mod PointLemmas

@@ -52,13 +52,13 @@ pub points_onto : (b : Bool) (i : Instr) (rest : Code) (p : ℕ)
 unfolding onto code_of_row
 points_onto b (Block' kind m inner) rest p =
     let same : p + 1 + count (code_of_row inner) ≡ p + (1 + count (code_of_row inner) + 0) = omega arith in
-    points_split _ _ _ _ (ap (λ z. points_in b rest z) same)
+    points_split (where_live b (At p ∷ Join p ∷ [])) (points_in b (code_of_row inner) (p + 1)) _ _ (ap (λ z. points_in b rest z) same)
 points_onto b (Loop' kind m inner) rest p =
     let same : p + 1 + count (code_of_row inner) ≡ p + (1 + count (code_of_row inner) + 0) = omega arith in
-    points_split _ _ _ _ (ap (λ z. points_in b rest z) same)
+    points_split (where_live b (At p ∷ Join p ∷ [])) (points_in b (code_of_row inner) (p + 1)) _ _ (ap (λ z. points_in b rest z) same)
 points_onto b (If' kind m x n y) rest p =
     let same : p + 1 + count (code_of_row x) + count (code_of_row y) ≡ p + (1 + count (code_of_row x) + count (code_of_row y) + 0) = omega arith in
-    points_if_split _ _ _ _ _ (ap (λ z. points_in b rest z) same)
+    points_if_split (where_live b (At p ∷ Join p ∷ [])) (points_in b (code_of_row x) (p + 1)) (points_in b (code_of_row y) (p + 1 + count (code_of_row x))) _ _ (ap (λ z. points_in b rest z) same)
 points_onto b i rest p = points_one (where_live b (At p ∷ [])) _
 
 -- ---- what stands after the last instruction
@@ -170,3 +170,106 @@ around_more labels label p a low high = record {
 
 pub reverse_push : (labels : List Node) (label : Node) → reverse (labels ++ label ∷ []) ≡ label ∷ reverse labels
 reverse_push labels label = reverse-append labels (label ∷ [])
+
+-- ---- what the code says of it
+
+pub first_some : (xs : List Instr) (e : ℕ) (k : Node) → (length xs ≡ 0 → ⊥) → At e ≡ first_of e (code_of xs) k
+first_some [] e k ne = absurd (ne refl)
+first_some (x ∷ xs) e k ne = sym (first_onto x (code_of xs) e k)
+
+pub row_is : (row : List Node) (x goes : Node) → row ≡ x ∷ [] → x ≡ goes → SameOnce row (goes ∷ [])
+row_is row x goes e f = subst (λ z. SameOnce z (goes ∷ [])) (sym (e ∙ ap (λ (z : Node). z ∷ []) f)) (same_one goes)
+
+pub row_same : (row goes goes' : List Node) → goes ≡ goes' → SameOnce row goes → SameOnce row goes'
+row_same row goes goes' e s = subst (λ z. SameOnce row z) e s
+
+pub plain_adds : (xs ys zs : List (List Node)) (row goes : List Node) → SameOnce row goes → ys ≡ xs ++ row ∷ [] → zs ≡ ys ++ [] ∷ [] → Adds xs zs (goes ∷ [] ∷ [])
+plain_adds xs ys zs row goes same e f = record {
+  made = row ∷ [] ∷ [];
+  is = f ∙ ap (λ z. z ++ [] ∷ []) e ∙ append_assoc xs (row ∷ []) ([] ∷ []);
+  fits = (same, (same_nil, tt));
+}
+
+-- within labels that are the same, and at a place that is the same
+pub adds_moved : (live : Bool) (xs ys : List (List Node)) (labels labels' : List Node) (label k : Node) (c : Code) (p p' : ℕ) → labels ≡ labels' → p ≡ p'
+    → Adds xs ys (lists live (label ∷ reverse labels) k c p) → Adds xs ys (lists live (label ∷ reverse labels') k c p')
+adds_moved live xs ys labels labels' label k c p p' e f a =
+    subst (λ z. Adds xs ys (lists live (label ∷ reverse labels') k c z)) f (subst (λ z. Adds xs ys (lists live (label ∷ reverse z) k c p)) e a)
+
+-- one instruction, and then the rest
+pub instr_then : (a b c : Found) (live live' : Bool) (labels : List Node) (after k : Node) (i : Instr) (rest whole : Code) (p e : ℕ) → whole ≡ onto i rest
+    → e ≡ p + count (onto i done) → k ≡ first_of e rest after → live' ≡ (goes_on i && live)
+    → Finds a b (points_in live (onto i done) p) (lists live labels k (onto i done) p) → Finds b c (points_in live' rest e) (lists live' labels after rest e)
+    → Finds a c (points_in live whole p) (lists live labels after whole p)
+instr_then a b c live live' labels after k i rest whole p e whole_is e_is k_is live_is f g =
+    let end = p + count (onto i done) in
+    let points_are : points_in live (onto i done) p ++ points_in live' rest e ≡ points_in live whole p =
+        ap₂ (λ (l : Bool) (z : ℕ). points_in live (onto i done) p ++ points_in l rest z) live_is e_is ∙ sym (points_onto live i rest p) ∙ ap (λ z. points_in live z p) (sym whole_is) in
+    let k_there : k ≡ first_of end rest after = k_is ∙ ap (λ z. first_of z rest after) e_is in
+    let lists_are : lists live labels k (onto i done) p ++ lists live' labels after rest e ≡ lists live labels after whole p =
+        ap₂ (λ (x y : List (List Node)). x ++ y) (ap (λ z. lists live labels z (onto i done) p) k_there) (ap₂ (λ (l : Bool) (z : ℕ). lists l labels after rest z) live_is e_is)
+        ∙ sym (lists_onto live labels after i rest p) ∙ ap (λ z. lists live labels after z p) (sym whole_is) in
+    subst (λ z. Finds a c z (lists live labels after whole p)) points_are
+    (subst (λ z. Finds a c (points_in live (onto i done) p ++ points_in live' rest e) z) lists_are
+    (finds_then a b c (points_in live (onto i done) p) (points_in live' rest e) (lists live labels k (onto i done) p) (lists live' labels after rest e) f g))
+
+-- an instruction by its kind
+nothing_behind : (old new : Found) (W P : List Node) (X Y : List Node) (I : List (List Node)) → Finds old new (W ++ P) (X ∷ Y ∷ I) → Finds old new (W ++ (P ++ [])) (X ∷ Y ∷ (I ++ []))
+nothing_behind old new W P X Y I f =
+    subst (λ z. Finds old new (W ++ z) (X ∷ Y ∷ (I ++ []))) (sym (append-nil P)) (subst (λ z. Finds old new (W ++ P) (X ∷ Y ∷ z)) (sym (append-nil I)) f)
+
+pub block_found : (old new : Found) (live : Bool) (i : Instr) (kind : Option ValType) (xs : List Instr) (labels : List Node) (k : Node) (p : ℕ) → i ≡ v.Block kind xs
+    → Finds old new (where_live live (At p ∷ Join p ∷ []) ++ points_in live (code_of xs) (p + 1))
+        (where_live live (first_of (p + 1) (code_of xs) (Join p) ∷ []) ∷ where_live live (k ∷ []) ∷ lists live (Join p ∷ labels) (Join p) (code_of xs) (p + 1))
+    → Finds old new (points_in live (onto i done) p) (lists live labels k (onto i done) p)
+block_found old new live i kind xs labels k p e f =
+    subst (λ c. Finds old new (points_in live c p) (lists live labels k c p)) (sym (ap (λ z. onto z done) e ∙ onto-block kind xs done))
+    (nothing_behind old new (where_live live (At p ∷ Join p ∷ [])) (points_in live (code_of xs) (p + 1)) (where_live live (first_of (p + 1) (code_of xs) (Join p) ∷ [])) (where_live live (k ∷ [])) (lists live (Join p ∷ labels) (Join p) (code_of xs) (p + 1)) f)
+
+pub loop_found : (old new : Found) (live : Bool) (i : Instr) (kind : Option ValType) (xs : List Instr) (labels : List Node) (k : Node) (p : ℕ) → i ≡ v.Loop kind xs
+    → Finds old new (where_live live (At p ∷ Join p ∷ []) ++ points_in live (code_of xs) (p + 1))
+        (where_live live (first_of (p + 1) (code_of xs) (Join p) ∷ []) ∷ where_live live (k ∷ []) ∷ lists live (At p ∷ labels) (Join p) (code_of xs) (p + 1))
+    → Finds old new (points_in live (onto i done) p) (lists live labels k (onto i done) p)
+loop_found old new live i kind xs labels k p e f =
+    subst (λ c. Finds old new (points_in live c p) (lists live labels k c p)) (sym (ap (λ z. onto z done) e ∙ onto-loop kind xs done))
+    (nothing_behind old new (where_live live (At p ∷ Join p ∷ [])) (points_in live (code_of xs) (p + 1)) (where_live live (first_of (p + 1) (code_of xs) (Join p) ∷ [])) (where_live live (k ∷ [])) (lists live (At p ∷ labels) (Join p) (code_of xs) (p + 1)) f)
+
+pub if_found : (old new : Found) (live : Bool) (i : Instr) (kind : Option ValType) (xs ys : List Instr) (labels : List Node) (k : Node) (p : ℕ) → i ≡ v.If kind xs ys
+    → (let f = p + 1 + count (code_of xs) in
+        Finds old new (where_live live (At p ∷ Join p ∷ []) ++ (points_in live (code_of xs) (p + 1) ++ points_in live (code_of ys) f))
+          (where_live live (first_of (p + 1) (code_of xs) (Join p) ∷ first_of f (code_of ys) (Join p) ∷ []) ∷ where_live live (k ∷ [])
+            ∷ (lists live (Join p ∷ labels) (Join p) (code_of xs) (p + 1) ++ lists live (Join p ∷ labels) (Join p) (code_of ys) f)))
+    → Finds old new (points_in live (onto i done) p) (lists live labels k (onto i done) p)
+if_found old new live i kind xs ys labels k p e g =
+    let f = p + 1 + count (code_of xs) in
+    let W = where_live live (At p ∷ Join p ∷ []) in
+    let P = points_in live (code_of xs) (p + 1) in
+    let Q = points_in live (code_of ys) f in
+    let X = where_live live (first_of (p + 1) (code_of xs) (Join p) ∷ first_of f (code_of ys) (Join p) ∷ []) in
+    let I = lists live (Join p ∷ labels) (Join p) (code_of xs) (p + 1) in
+    let J = lists live (Join p ∷ labels) (Join p) (code_of ys) f in
+    subst (λ c. Finds old new (points_in live c p) (lists live labels k c p)) (sym (ap (λ z. onto z done) e ∙ onto-if kind xs ys done))
+    (subst (λ z. Finds old new (W ++ (P ++ z)) (X ∷ where_live live (k ∷ []) ∷ (I ++ (J ++ [])))) (sym (append-nil Q))
+    (subst (λ z. Finds old new (W ++ (P ++ Q)) (X ∷ where_live live (k ∷ []) ∷ (I ++ z))) (sym (append-nil J)) g))
+
+pub plain_found : (old new : Found) (live : Bool) (i : Instr) (labels : List Node) (k : Node) (p : ℕ) → is_plain i ≡ true
+    → Finds old new (where_live live (At p ∷ [])) (where_live live (goes_of labels i k) ∷ [] ∷ [])
+    → Finds old new (points_in live (onto i done) p) (lists live labels k (onto i done) p)
+plain_found old new live i labels k p plain f =
+    subst (λ c. Finds old new (points_in live c p) (lists live labels k c p)) (sym (onto-one i done plain))
+    (subst (λ z. Finds old new z (where_live live (goes_of labels i k) ∷ [] ∷ [])) (sym (append-nil (where_live live (At p ∷ [])))) f)
+
+pub block_count : (i : Instr) (kind : Option ValType) (xs : List Instr) → i ≡ v.Block kind xs → count (onto i done) ≡ 1 + count (code_of xs)
+block_count i kind xs e = ap (λ z. count (onto z done)) e ∙ ap count (onto-block kind xs done) ∙ omega arith
+
+pub loop_count : (i : Instr) (kind : Option ValType) (xs : List Instr) → i ≡ v.Loop kind xs → count (onto i done) ≡ 1 + count (code_of xs)
+loop_count i kind xs e = ap (λ z. count (onto z done)) e ∙ ap count (onto-loop kind xs done) ∙ omega arith
+
+pub if_count : (i : Instr) (kind : Option ValType) (xs ys : List Instr) → i ≡ v.If kind xs ys → count (onto i done) ≡ 1 + count (code_of xs) + count (code_of ys)
+if_count i kind xs ys e = ap (λ z. count (onto z done)) e ∙ ap count (onto-if kind xs ys done) ∙ omega arith
+
+pub plain_count : (i : Instr) → is_plain i ≡ true → count (onto i done) ≡ 1
+plain_count i plain = ap count (onto-one i done plain)
+
+pub live_row : (live : Bool) (row goes : List Node) → live ≡ true → SameOnce row goes → SameOnce row (where_live live goes)
+live_row live row goes e s = subst (λ z. SameOnce row (where_live z goes)) (sym e) s
