@@ -4,3 +4,5 @@ pub mod TargetLemmas
 pub mod WalkLemmas
 pub mod BeforeLemmas
 pub mod PointLemmas
+pub mod LeadLemmas
+pub mod CfgLemmas

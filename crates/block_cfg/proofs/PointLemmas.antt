@@ -82,11 +82,11 @@ after_transfer n p rest = none_from (p + 1) n ∙ sym (no_points rest (p + 1))
 leaf_points : (cs : Callees) (w : ℕ → Bool) (i : Instr) (rest : Code) (ctx : List Label) (k : Node) (p : ℕ) (names : List Node)
     → ((ns : List Node) → points_from (p + 1) (sites cs ctx k (marked w (p + 1) rest) (p + 1) ns) ≡ points_in true rest (p + 1))
     → points_from p (sites cs ctx k (plain (w p) i (marked w (p + 1) rest)) p names) ≡ At p ∷ points_in (goes_on i && true) rest (p + 1)
-leaf_points cs w (instr.Br l) rest ctx k p names ih = ap (λ (l : List Node). At p ∷ l) (after_transfer _ p rest)
+leaf_points cs w (instr.Br l) rest ctx k p names ih = ap (λ (l : List Node). At p ∷ l) (after_transfer (size (marked w (p + 1) rest)) p rest)
 leaf_points cs w (instr.BrIf l) rest ctx k p names ih = ap (λ (l : List Node). At p ∷ l) (ih _)
-leaf_points cs w (instr.BrTable some other) rest ctx k p names ih = ap (λ (l : List Node). At p ∷ l) (after_transfer _ p rest)
-leaf_points cs w instr.Return rest ctx k p names ih = ap (λ (l : List Node). At p ∷ l) (after_transfer _ p rest)
-leaf_points cs w instr.Unreachable rest ctx k p names ih = ap (λ (l : List Node). At p ∷ l) (after_transfer _ p rest)
+leaf_points cs w (instr.BrTable some other) rest ctx k p names ih = ap (λ (l : List Node). At p ∷ l) (after_transfer (size (marked w (p + 1) rest)) p rest)
+leaf_points cs w instr.Return rest ctx k p names ih = ap (λ (l : List Node). At p ∷ l) (after_transfer (size (marked w (p + 1) rest)) p rest)
+leaf_points cs w instr.Unreachable rest ctx k p names ih = ap (λ (l : List Node). At p ∷ l) (after_transfer (size (marked w (p + 1) rest)) p rest)
 leaf_points cs w i rest ctx k p names ih = ap (λ (l : List Node). At p ∷ l) (ih (made cs p i names))
 
 both_points : (p q : ℕ) (A B : Sites) (a b : List Node) → q ≡ p + length A → points_from p A ≡ a → points_from q B ≡ b → points_from p (A ++ B) ≡ a ++ b
@@ -106,8 +106,10 @@ sites_points cs w (block kind inner rest) ctx k p names r =
     let same : e ≡ e' = omega (arith, size_marked w inner (p + 1)) in
     let L = block_label p (arity kind) e in
     let after = named (arity kind) (Join p) names in
+    let A = sites cs (L ∷ ctx) (Join p) (marked w (p + 1) inner) (p + 1) [] in
+    let long : e' ≡ p + 1 + length A = omega (arith, sites_length cs w inner (L ∷ ctx) (Join p) (p + 1) [] (rooted_more L ctx r)) in
     ap (λ (l : List Node). At p ∷ Join p ∷ l)
-    (both_points (p + 1) e' _ _ _ _ (omega (arith, sites_length cs w inner (L ∷ ctx) (Join p) (p + 1) [] (rooted_more L ctx r))) (sites_points cs w inner (L ∷ ctx) (Join p) (p + 1) [] (rooted_more L ctx r))
+    (both_points (p + 1) e' A _ _ _ long (sites_points cs w inner (L ∷ ctx) (Join p) (p + 1) [] (rooted_more L ctx r))
         (rest_points cs w rest ctx k e e' after same (sites_points cs w rest ctx k e' after r)))
 sites_points cs w (repeat kind inner rest) ctx k p names r =
     let e = p + 1 + size (marked w (p + 1) inner) in
@@ -115,8 +117,10 @@ sites_points cs w (repeat kind inner rest) ctx k p names r =
     let same : e ≡ e' = omega (arith, size_marked w inner (p + 1)) in
     let L = loop_label p e in
     let after = named (arity kind) (Join p) names in
+    let A = sites cs (L ∷ ctx) (Join p) (marked w (p + 1) inner) (p + 1) [] in
+    let long : e' ≡ p + 1 + length A = omega (arith, sites_length cs w inner (L ∷ ctx) (Join p) (p + 1) [] (rooted_more L ctx r)) in
     ap (λ (l : List Node). At p ∷ Join p ∷ l)
-    (both_points (p + 1) e' _ _ _ _ (omega (arith, sites_length cs w inner (L ∷ ctx) (Join p) (p + 1) [] (rooted_more L ctx r))) (sites_points cs w inner (L ∷ ctx) (Join p) (p + 1) [] (rooted_more L ctx r))
+    (both_points (p + 1) e' A _ _ _ long (sites_points cs w inner (L ∷ ctx) (Join p) (p + 1) [] (rooted_more L ctx r))
         (rest_points cs w rest ctx k e e' after same (sites_points cs w rest ctx k e' after r)))
 sites_points cs w (branch kind x y rest) ctx k p names r =
     let x' = marked w (p + 1) x in
@@ -129,10 +133,14 @@ sites_points cs w (branch kind x y rest) ctx k p names r =
     let same : e ≡ e' = omega (arith, size_marked w x (p + 1), size_marked w y f') in
     let L = block_label p (arity kind) e in
     let after = named (arity kind) (Join p) (drop 1 names) in
-    let long : length (sites cs (L ∷ ctx) (Join p) y' f []) ≡ count y = ap (λ z. length (sites cs (L ∷ ctx) (Join p) y' z [])) same_f ∙ sites_length cs w y (L ∷ ctx) (Join p) f' [] (rooted_more L ctx r) in
+    let A = sites cs (L ∷ ctx) (Join p) x' (p + 1) [] in
+    let B = sites cs (L ∷ ctx) (Join p) y' f [] in
+    let b : length B ≡ count y = ap (λ z. length (sites cs (L ∷ ctx) (Join p) y' z [])) same_f ∙ sites_length cs w y (L ∷ ctx) (Join p) f' [] (rooted_more L ctx r) in
+    let long_a : f' ≡ p + 1 + length A = omega (arith, sites_length cs w x (L ∷ ctx) (Join p) (p + 1) [] (rooted_more L ctx r)) in
+    let long_b : e' ≡ f' + length B = omega (arith, b) in
     ap (λ (l : List Node). At p ∷ Join p ∷ l)
-    (both_points (p + 1) f' _ _ _ _ (omega (arith, sites_length cs w x (L ∷ ctx) (Join p) (p + 1) [] (rooted_more L ctx r))) (sites_points cs w x (L ∷ ctx) (Join p) (p + 1) [] (rooted_more L ctx r))
-        (both_points f' e' _ _ _ _ (omega (arith, long)) (rest_points cs w y (L ∷ ctx) (Join p) f f' [] same_f (sites_points cs w y (L ∷ ctx) (Join p) f' [] (rooted_more L ctx r)))
+    (both_points (p + 1) f' A _ _ _ long_a (sites_points cs w x (L ∷ ctx) (Join p) (p + 1) [] (rooted_more L ctx r))
+        (both_points f' e' B _ _ _ long_b (rest_points cs w y (L ∷ ctx) (Join p) f f' [] same_f (sites_points cs w y (L ∷ ctx) (Join p) f' [] (rooted_more L ctx r)))
             (rest_points cs w rest ctx k e e' after same (sites_points cs w rest ctx k e' after r))))
 
 -- ---- which they are

@@ -103,7 +103,7 @@ shapes S = flat_map shape S
 
 -- ---- dead code
 
-abbrev dead : ℕ → Sites
+abbrev pub dead : ℕ → Sites
 dead n = replicate n None
 
 dead_add : (a b : ℕ) → shapes (dead a) ++ shapes (dead b) ≡ shapes (dead (a + b))
