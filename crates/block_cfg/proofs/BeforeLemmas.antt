@@ -1,9 +1,9 @@
 -- Lists turned round, a point at a time.
-use Rattle.std.proofs.Common.{◌≡◌, ◌≢◌, ℕ, ◌+◌, ◌<◌, ◌≤◌, ◌⊎◌, inl, inr, ⊎_elim, List, [], ◌∷◌, ◌++◌, length, get_or, set, take, replicate, refl, sym, ap, ◌∙◌, subst, arith}
+use Rattle.std.proofs.Common.{◌≡◌, ◌≢◌, ℕ, ◌+◌, ◌<◌, ◌≤◌, ◌⊎◌, inl, inr, ⊎_elim, List, [], ◌∷◌, ◌++◌, length, get_or, set, take, replicate, sym, ap, ◌∙◌, subst, arith}
 use Rattle.std.specs.List.{Contains}
 use Rattle.std.proofs.lemmas.Bool.{cases_eq, cases_lt}
 use Rattle.std.proofs.lemmas.List.{get_or-set_same, get_or-set_other, get_or-take, get_or-replicate, get_or_past, take_more, take_all, get_or_default, get_or_read, length-take-le, length-replicate}
-use Rattle.std.proofs.lemmas.List.Elements.{Contains-append_left, Contains-push, Contains-push_cases, Contains-get_or}
+use Rattle.std.proofs.lemmas.List.Elements.{Contains-append_left, Contains-push, Contains-push_cases}
 use Rattle.wasm_types.specs.declared.place.Node.{Node}
 use Rattle.wasm_types.specs.declared.place.Node.TheVariants.{Exit}
 use Rattle.block_cfg.specs.Graph.{EachOnce, number, row_of}
@@ -27,7 +27,6 @@ pub added_none : (old : List (List Node)) (from : Node) → IsAdded old old from
 added_none old from a b = ((λ c. inl c), (λ either. ⊎_elim (λ c. c) (λ (e, c). absurd (omega (arith, c.1))) either))
 
 module _ (old mid : List (List Node)) (from : Node) (row : List Node) (j : ℕ) (to : Node) (in_row : j < length row) (is : to ≡ get_or row j Exit) (within : number to < length mid) where
-
   taken : take (j + 1) row ≡ take j row ++ to ∷ []
   taken = take_more row j Exit in_row ∙ ap (λ (z : Node). take j row ++ z ∷ []) (sym is)
 
@@ -37,28 +36,26 @@ module _ (old mid : List (List Node)) (from : Node) (row : List Node) (j : ℕ) 
   pub added_more : IsAdded old mid from (take j row) → IsAdded old (set mid (number to) (row_of mid to ++ from ∷ [])) from (take (j + 1) row)
   added_more added a b = ⊎_elim
       (λ (e : b ≡ to).
-        let row_is : row_of (set mid (number to) (row_of mid to ++ from ∷ [])) b ≡ row_of mid b ++ from ∷ [] = same_row mid to b (row_of mid to ++ from ∷ []) within e ∙ ap (λ z. row_of mid z ++ from ∷ []) (sym e) in
-        let here : Contains (take (j + 1) row) b = subst (λ l. Contains l b) (sym taken) (subst (λ z. Contains (take j row ++ to ∷ []) z) (sym e) (Contains-push (take j row) to)) in
-        (
-          (λ c. ⊎_elim
-              (λ d. ⊎_elim (λ o. inl o) (λ (f, g). inr (f, here)) ((added a b).0 d))
-              (λ d. inr (sym d, here))
-              (Contains-push_cases (row_of mid b) from a (subst (λ l. Contains l a) row_is c))),
-          (λ either. subst (λ l. Contains l a) (sym row_is) (⊎_elim
-              (λ o. Contains-append_left (row_of mid b) (from ∷ []) a ((added a b).1 (inl o)))
-              (λ (f, g). subst (λ z. Contains (row_of mid b ++ from ∷ []) z) (sym f) (Contains-push (row_of mid b) from)) either)),
-        ))
+      let row_is : row_of (set mid (number to) (row_of mid to ++ from ∷ [])) b ≡ row_of mid b ++ from ∷ [] = same_row mid to b (row_of mid to ++ from ∷ []) within e ∙ ap (λ z. row_of mid z ++ from ∷ []) (sym e) in
+      let here : Contains (take (j + 1) row) b = subst (λ l. Contains l b) (sym taken) (subst (λ z. Contains (take j row ++ to ∷ []) z) (sym e) (Contains-push (take j row) to)) in (
+        (λ c. ⊎_elim
+            (λ d. ⊎_elim (λ o. inl o) (λ (f, g). inr (f, here)) ((added a b).0 d))
+            (λ d. inr (sym d, here))
+            (Contains-push_cases (row_of mid b) from a (subst (λ l. Contains l a) row_is c))),
+        (λ either. subst (λ l. Contains l a) (sym row_is) (⊎_elim
+            (λ o. Contains-append_left (row_of mid b) (from ∷ []) a ((added a b).1 (inl o)))
+            (λ (f, g). subst (λ z. Contains (row_of mid b ++ from ∷ []) z) (sym f) (Contains-push (row_of mid b) from)) either)),
+      ))
       (λ (ne : b ≢ to).
-        let row_is : row_of (set mid (number to) (row_of mid to ++ from ∷ [])) b ≡ row_of mid b = other_row mid to b (row_of mid to ++ from ∷ []) ne in
-        (
-          (λ c. ⊎_elim
-              (λ o. inl o)
-              (λ (f, g). inr (f, subst (λ l. Contains l b) (sym taken) (Contains-append_left (take j row) (to ∷ []) b g)))
-              ((added a b).0 (subst (λ l. Contains l a) row_is c))),
-          (λ either. subst (λ l. Contains l a) (sym row_is) ((added a b).1 (⊎_elim
-              (λ o. inl o)
-              (λ (f, g). ⊎_elim (λ h. inr (f, h)) (λ h. absurd (ne (sym h))) (Contains-push_cases (take j row) to b (subst (λ l. Contains l b) taken g))) either))),
-        ))
+      let row_is : row_of (set mid (number to) (row_of mid to ++ from ∷ [])) b ≡ row_of mid b = other_row mid to b (row_of mid to ++ from ∷ []) ne in (
+        (λ c. ⊎_elim
+            (λ o. inl o)
+            (λ (f, g). inr (f, subst (λ l. Contains l b) (sym taken) (Contains-append_left (take j row) (to ∷ []) b g)))
+            ((added a b).0 (subst (λ l. Contains l a) row_is c))),
+        (λ either. subst (λ l. Contains l a) (sym row_is) ((added a b).1 (⊎_elim
+            (λ o. inl o)
+            (λ (f, g). ⊎_elim (λ h. inr (f, h)) (λ h. absurd (ne (sym h))) (Contains-push_cases (take j row) to b (subst (λ l. Contains l b) taken g))) either))),
+      ))
       (same_or_other b to)
 
   -- it wasn't there: the row has each point once
@@ -67,11 +64,11 @@ module _ (old mid : List (List Node)) (from : Node) (row : List Node) (j : ℕ) 
   once_more added row_once new once b =
       let short : length (take j row) ≡ j = length-take-le j row (omega arith) in
       let missing : Contains (row_of mid to) from → ⊥ = λ c. ⊎_elim
-          (λ o. new to o)
-          (λ (f, (k, lt, e)).
-            let lower : k < j = omega (arith, lt, short) in
-            row_once k j to lower in_row (sym (get_or-take j row k to lower) ∙ e ∙ is ∙ get_or_default row j Exit to in_row))
-          ((added from to).0 c) in
+      (λ o. new to o)
+      (λ (f, (k, lt, e)).
+      let lower : k < j = omega (arith, lt, short) in
+      row_once k j to lower in_row (sym (get_or-take j row k to lower) ∙ e ∙ is ∙ get_or_default row j Exit to in_row))
+      ((added from to).0 c) in
       ⊎_elim
       (λ (e : b ≡ to). subst EachOnce (sym (same_row mid to b (row_of mid to ++ from ∷ []) within e)) (once_push (row_of mid to) from (once to) missing))
       (λ (ne : b ≢ to). subst EachOnce (sym (other_row mid to b (row_of mid to ++ from ∷ []) ne)) (once b))
@@ -123,8 +120,8 @@ turned_more next before after i from e t added a b = (
   (λ (lt, g). (added a b).1 (⊎_elim
       (λ (f : a ≡ from). inr (f, subst (λ z. Contains (row_of next z) b) f g))
       (λ (ne : a ≢ from).
-        let other : number a ≢ number from = λ f. ne (number_injective a from f) in
-        let lower : number a < i = omega (arith, lt, other) in inl ((t a b).1 (lower, g)))
+      let other : number a ≢ number from = λ f. ne (number_injective a from f) in
+      let lower : number a < i = omega (arith, lt, other) in inl ((t a b).1 (lower, g)))
       (same_or_other a from))),
 )
 

@@ -1,6 +1,6 @@
 -- What the walk found is the graph of the body.
-use Rattle.std.proofs.Common.{◌≡◌, ℕ, ◌+◌, ◌*◌, ◌<◌, ◌≤◌, ◌↔◌, ◌⊎◌, inl, inr, ⊎_elim, Bool, true, false, List, [], ◌∷◌, ◌++◌, Some, length, get_or, refl, sym, ap, ◌∙◌, subst, arith, length-append}
-use Rattle.std.specs.List.{All, AllPairs, AllZip, Contains, slice_get}
+use Rattle.std.proofs.Common.{◌≡◌, ℕ, ◌+◌, ◌*◌, ◌<◌, ◌↔◌, inl, ⊎_elim, true, List, [], ◌∷◌, ◌++◌, Some, length, get_or, refl, sym, ap, ◌∙◌, subst, arith}
+use Rattle.std.specs.List.{All, AllZip, Contains, slice_get}
 use Rattle.std.proofs.lemmas.Bool.{cases_lt}
 use Rattle.std.proofs.lemmas.List.{get_or_past}
 use Rattle.std.proofs.lemmas.List.Elements.{All-get_or, All-nil, All-cons, Contains-get_or, length_all_zip}
@@ -9,18 +9,16 @@ use Rattle.wasm_types.specs.declared.place.Node.{Node}
 use Rattle.wasm_types.specs.declared.place.Node.TheVariants as node
 use Rattle.wasm_types.specs.declared.place.Node.TheVariants.{Exit}
 use Rattle.wasm_types.specs.Code.{Code, done, one, block, repeat, branch, code_of, count}
-use Rattle.wasm_types.specs.Marked.{Marked, marked, size}
-use Rattle.wasm_types.specs.Actions.{Callees}
-use Rattle.wasm_types.specs.Nodes.{At, Join}
+use Rattle.wasm_types.specs.Marked.{marked, size}
 use Rattle.wasm_types.specs.Labels.{body_label, first}
 use Rattle.wasm_types.specs.Sites.{Sites, body_sites, Leads, Among, from_at, from_join}
-use Rattle.block_cfg.specs.Graph.{Graph, number, row_of, EachOnce, IsNumbered}
+use Rattle.block_cfg.specs.Graph.{number, row_of, EachOnce, IsNumbered}
 use Rattle.block_cfg.specs.Points.{IsPoint, IsGraphOf, IsCfgOf}
 use Rattle.block_cfg.specs.Walk.{SameOnce, Adds, AreAround, points_in, lists, first_of}
 use Rattle.block_cfg.proofs.MemberLemmas.{among_of, contains_of, among_left, among_right, among_cases, zip_once, zip_row, same_nil, once_nil}
 use Rattle.block_cfg.proofs.SiteLemmas.{first_marked, shapes, sites_shapes}
 use Rattle.block_cfg.proofs.PointLemmas.{points_from, sites_points, points_are, are_points, points_once, length_lists}
-use Rattle.block_cfg.proofs.LeadLemmas.{all_rows, leads_of, of_leads, EachNode, EachRow, each_among, each_from, row_each, lists_each, points_below}
+use Rattle.block_cfg.proofs.LeadLemmas.{all_rows, leads_of, of_leads, EachRow, each_among, each_from, row_each, lists_each, points_below}
 
 -- what is to be found of code: its points, and the lists of its points
 abbrev pub all_points : Code → List Node
@@ -61,7 +59,6 @@ each_row rows all k = ⊎_elim
     (cases_lt k (length rows))
 
 module _ (c : Code) (next : List (List Node)) (adds : Adds ([] ∷ []) next (all_lists c)) where
-
   fits : AllZip SameOnce next ([] ∷ all_lists c)
   fits = subst (λ z. AllZip SameOnce z ([] ∷ all_lists c)) (sym adds.is) (same_nil, adds.fits)
 
@@ -91,9 +88,7 @@ module _ (c : Code) (next : List (List Node)) (adds : Adds ([] ∷ []) next (all
   }
 
   module _ (before : List (List Node)) (turned : (a b : Node) → Contains (row_of before b) a ↔ Contains (row_of next a) b) (once : (b : Node) → EachOnce (row_of before b)) where
-
     module _ (S : Sites) (start : Node) (rows : shapes S ≡ all_lists c) (points : points_from 0 S ≡ points_in true c 0) (starts : first_of 0 c Exit ≡ start) where
-
       found : (a b : Node) → (Contains (row_of next a) b → Leads S a b) × (Leads S a b → Contains (row_of next a) b)
       found a b =
           let e : all_rows S ≡ [] ∷ all_lists c = ap (λ (l : List (List Node)). [] ∷ l) rows in
@@ -129,4 +124,4 @@ module _ (c : Code) (next : List (List Node)) (adds : Adds ([] ∷ []) next (all
     is_cfg body e cs t w =
         subst (λ z. IsGraphOf (body_sites cs t (marked w 0 z)) (first 0 (marked w 0 z) node.Exit) (record { points = all_points c; next = next; before = before })) e
         (graph (body_sites cs t (marked w 0 c)) (first 0 (marked w 0 c) Exit) (sites_shapes cs w c (body_label t (size (marked w 0 c)) ∷ []) Exit 0 [] refl)
-            (sites_points cs w c (body_label t (size (marked w 0 c)) ∷ []) Exit 0 [] refl) (sym (first_marked w c 0 Exit)))
+        (sites_points cs w c (body_label t (size (marked w 0 c)) ∷ []) Exit 0 [] refl) (sym (first_marked w c 0 Exit)))

@@ -1,6 +1,6 @@
 -- Where sites lead, against the lists that a walk finds.
-use Rattle.std.proofs.Common.{◌≡◌, ℕ, zero, suc, ◌+◌, ◌*◌, ◌<◌, ◌≤◌, ◌&&◌, ◌⊎◌, inl, inr, ⊎_elim, Bool, true, false, List, [], ◌∷◌, ◌++◌, Option, Some, None, length, map, get_or, refl, sym, ap, ◌∙◌, subst, arith}
-use Rattle.std.specs.List.{flat_map, slice_get, Contains, slice_index_or}
+use Rattle.std.proofs.Common.{◌≡◌, ℕ, zero, suc, ◌+◌, ◌*◌, ◌<◌, ◌≤◌, ◌&&◌, inl, inr, ⊎_elim, Bool, true, false, List, [], ◌∷◌, ◌++◌, Option, Some, None, map, get_or, refl, sym, ap, ◌∙◌, subst, arith}
+use Rattle.std.specs.List.{slice_get, Contains}
 use Rattle.wasm_types.specs.declared.instr.Instr.{Instr}
 use Rattle.wasm_types.specs.declared.instr.Instr as instr
 use Rattle.wasm_types.specs.declared.place.Node.{Node}
@@ -9,11 +9,11 @@ use Rattle.wasm_types.specs.declared.place.Node.TheVariants.{Exit}
 use Rattle.wasm_types.specs.Code.{Code, done, one, block, repeat, branch, count}
 use Rattle.wasm_types.specs.Nodes.{At, Join}
 use Rattle.wasm_types.specs.Labels.{Label, point_of}
-use Rattle.wasm_types.specs.Sites.{Head, DoHead, BlockHead, LoopHead, IfHead, BrHead, BrIfHead, BrTableHead, ReturnHead, UnreachableHead, HasJoin, Site, Sites, IsSite, Among, OneOf, Branches, Goes, to_next, past, into, branches, Leads, from_at, from_join}
+use Rattle.wasm_types.specs.Sites.{Head, DoHead, BlockHead, LoopHead, IfHead, BrHead, BrIfHead, BrTableHead, ReturnHead, UnreachableHead, Site, Sites, Among, OneOf, Branches, Goes, to_next, past, into, branches, Leads, from_at, from_join}
 use Rattle.block_cfg.specs.Graph.{number, row_of}
 use Rattle.block_cfg.specs.Walk.{target_of, goes_of, goes_on, first_of, where_live, points_in, lists}
 use Rattle.block_cfg.proofs.MemberLemmas.{among_of, contains_of, among_left, among_right, among_cases}
-use Rattle.block_cfg.proofs.SiteLemmas.{head_goes, head_after, goes, shape, shapes, dead, dead_lists}
+use Rattle.block_cfg.proofs.SiteLemmas.{head_goes, head_after, goes, shapes, dead, dead_lists}
 use Rattle.block_cfg.proofs.PointLemmas.{has_after, after_among}
 
 -- ---- where one site leads
@@ -248,7 +248,7 @@ lists_each P labels k (branch kind a b rest) p x ls h g =
         rows_append P (lists true (Join p ∷ labels) (Join p) a (p + 1)) (lists true (Join p ∷ labels) (Join p) b f ++ lists true labels k rest e)
             (lists_each P (Join p ∷ labels) (Join p) a (p + 1) x (join, ls) join parts.0)
             (rows_append P (lists true (Join p ∷ labels) (Join p) b f) (lists true labels k rest e) (lists_each P (Join p ∷ labels) (Join p) b f x (join, ls) join more.0)
-                (lists_each P labels k rest e x ls h more.1)),
+            (lists_each P labels k rest e x ls h more.1)),
       ),
     )
 
@@ -275,5 +275,5 @@ points_below b (repeat kind inner rest) p hi le =
 points_below b (branch kind x y rest) p hi le =
     append_each (λ (n : Node). number n < 2 * hi + 1) (where_live b (At p ∷ Join p ∷ [])) _ (both_below b p hi (omega arith))
     (append_each (λ (n : Node). number n < 2 * hi + 1) (points_in b x (p + 1)) _ (points_below b x (p + 1) hi (omega arith))
-        (append_each (λ (n : Node). number n < 2 * hi + 1) (points_in b y (p + 1 + count x)) _ (points_below b y (p + 1 + count x) hi (omega arith))
-            (points_below b rest (p + 1 + count x + count y) hi (omega arith))))
+    (append_each (λ (n : Node). number n < 2 * hi + 1) (points_in b y (p + 1 + count x)) _ (points_below b y (p + 1 + count x) hi (omega arith))
+    (points_below b rest (p + 1 + count x + count y) hi (omega arith))))

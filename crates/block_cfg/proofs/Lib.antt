@@ -6,3 +6,4 @@ pub mod BeforeLemmas
 pub mod PointLemmas
 pub mod LeadLemmas
 pub mod CfgLemmas
+pub mod ValidBodies

@@ -1,24 +1,23 @@
 -- The points of sites.
-use Rattle.std.proofs.Common.{◌≡◌, ℕ, zero, suc, ◌+◌, ◌*◌, ◌<◌, ◌≤◌, ◌&&◌, ◌⊎◌, inl, inr, ⊎_elim, Bool, true, false, List, [], ◌∷◌, ◌++◌, Option, Some, None, length, replicate, drop, get_or, refl, sym, ap, ap₂, ◌∙◌, subst, arith, length-append}
-use Rattle.std.specs.List.{flat_map, slice_get, Contains}
-use Rattle.std.proofs.lemmas.List.{append_assoc, append-nil}
-use Rattle.wasm_types.specs.declared.module.ValType.{ValType}
+use Rattle.std.proofs.Common.{◌≡◌, ℕ, zero, suc, ◌+◌, ◌*◌, ◌≤◌, ◌&&◌, ◌⊎◌, inl, inr, ⊎_elim, Bool, true, false, List, [], ◌∷◌, ◌++◌, Option, Some, None, length, replicate, drop, refl, sym, ap, ap₂, ◌∙◌, subst, arith, length-append}
+use Rattle.std.specs.List.{slice_get}
+use Rattle.std.proofs.lemmas.List.{append_assoc}
 use Rattle.wasm_types.specs.declared.instr.Instr.{Instr}
 use Rattle.wasm_types.specs.declared.instr.Instr as instr
 use Rattle.wasm_types.specs.declared.place.Node.{Node}
 use Rattle.wasm_types.specs.declared.place.Node.TheVariants as node
 use Rattle.wasm_types.specs.declared.place.Node.TheVariants.{Exit}
 use Rattle.wasm_types.specs.Code.{Code, done, one, block, repeat, branch, count}
-use Rattle.wasm_types.specs.Marked.{Marked, plain, marked, size}
+use Rattle.wasm_types.specs.Marked.{plain, marked, size}
 use Rattle.wasm_types.specs.Actions.{Callees}
 use Rattle.wasm_types.specs.Nodes.{At, Join, named, made}
 use Rattle.wasm_types.specs.Labels.{arity, Label, block_label, loop_label}
-use Rattle.wasm_types.specs.Sites.{Head, DoHead, BlockHead, LoopHead, IfHead, BrHead, BrIfHead, BrTableHead, ReturnHead, UnreachableHead, HasJoin, Site, Sites, IsSite, sites, Among}
+use Rattle.wasm_types.specs.Sites.{Head, DoHead, BlockHead, LoopHead, IfHead, BrHead, BrIfHead, BrTableHead, ReturnHead, UnreachableHead, HasJoin, Site, Sites, sites, Among}
 use Rattle.block_cfg.specs.Graph.{number, EachOnce}
 use Rattle.block_cfg.specs.Points.{IsPoint}
-use Rattle.block_cfg.specs.Walk.{target_of, goes_of, goes_on, first_of, where_live, points_in, lists}
-use Rattle.block_cfg.proofs.MemberLemmas.{among_of, contains_of, among_left, among_right, among_cases, Apart, apart_push, once_of, Rises, rises_from, rises_above, rises_apart}
-use Rattle.block_cfg.proofs.SiteLemmas.{size_marked, points_of, IsRooted, rooted_more, head_after, shapes, shape, sites_shapes}
+use Rattle.block_cfg.specs.Walk.{goes_on, points_in, lists}
+use Rattle.block_cfg.proofs.MemberLemmas.{among_left, among_right, among_cases, apart_push, once_of, Rises, rises_from, rises_above, rises_apart}
+use Rattle.block_cfg.proofs.SiteLemmas.{size_marked, points_of, IsRooted, rooted_more, head_after, shapes, sites_shapes}
 
 -- ---- lengths
 
@@ -110,7 +109,7 @@ sites_points cs w (block kind inner rest) ctx k p names r =
     let long : e' ≡ p + 1 + length A = omega (arith, sites_length cs w inner (L ∷ ctx) (Join p) (p + 1) [] (rooted_more L ctx r)) in
     ap (λ (l : List Node). At p ∷ Join p ∷ l)
     (both_points (p + 1) e' A _ _ _ long (sites_points cs w inner (L ∷ ctx) (Join p) (p + 1) [] (rooted_more L ctx r))
-        (rest_points cs w rest ctx k e e' after same (sites_points cs w rest ctx k e' after r)))
+    (rest_points cs w rest ctx k e e' after same (sites_points cs w rest ctx k e' after r)))
 sites_points cs w (repeat kind inner rest) ctx k p names r =
     let e = p + 1 + size (marked w (p + 1) inner) in
     let e' = p + 1 + count inner in
@@ -121,7 +120,7 @@ sites_points cs w (repeat kind inner rest) ctx k p names r =
     let long : e' ≡ p + 1 + length A = omega (arith, sites_length cs w inner (L ∷ ctx) (Join p) (p + 1) [] (rooted_more L ctx r)) in
     ap (λ (l : List Node). At p ∷ Join p ∷ l)
     (both_points (p + 1) e' A _ _ _ long (sites_points cs w inner (L ∷ ctx) (Join p) (p + 1) [] (rooted_more L ctx r))
-        (rest_points cs w rest ctx k e e' after same (sites_points cs w rest ctx k e' after r)))
+    (rest_points cs w rest ctx k e e' after same (sites_points cs w rest ctx k e' after r)))
 sites_points cs w (branch kind x y rest) ctx k p names r =
     let x' = marked w (p + 1) x in
     let y' = marked w (p + 1 + count x) y in
@@ -140,8 +139,8 @@ sites_points cs w (branch kind x y rest) ctx k p names r =
     let long_b : e' ≡ f' + length B = omega (arith, b) in
     ap (λ (l : List Node). At p ∷ Join p ∷ l)
     (both_points (p + 1) f' A _ _ _ long_a (sites_points cs w x (L ∷ ctx) (Join p) (p + 1) [] (rooted_more L ctx r))
-        (both_points f' e' B _ _ _ long_b (rest_points cs w y (L ∷ ctx) (Join p) f f' [] same_f (sites_points cs w y (L ∷ ctx) (Join p) f' [] (rooted_more L ctx r)))
-            (rest_points cs w rest ctx k e e' after same (sites_points cs w rest ctx k e' after r))))
+    (both_points f' e' B _ _ _ long_b (rest_points cs w y (L ∷ ctx) (Join p) f f' [] same_f (sites_points cs w y (L ∷ ctx) (Join p) f' [] (rooted_more L ctx r)))
+    (rest_points cs w rest ctx k e e' after same (sites_points cs w rest ctx k e' after r))))
 
 -- ---- which they are
 
@@ -207,16 +206,14 @@ stands_point p (None ∷ S) (suc q) s e =
     (subst (λ z. Among (points_from (p + 1) S) (At z)) same h.0, (λ j. subst (λ z. Among (points_from (p + 1) S) (Join z)) same (h.1 j)))
 stands_point p (Some r ∷ S) zero s e =
     let same : p ≡ p + 0 = omega arith in
-    let rs : r ≡ s = cc in
-    (
+    let rs : r ≡ s = cc in (
       inl (ap At same),
       (λ j. inr (among_left (head_after r.head (Join p)) (points_from (p + 1) S) (Join (p + 0))
           (subst (λ z. Among (head_after r.head (Join p)) (Join z)) same (has_after r.head (Join p) (subst (λ (z : Site). HasJoin z.head) (sym rs) j))))),
     )
 stands_point p (Some r ∷ S) (suc q) s e =
     let same : p + 1 + q ≡ p + suc q = omega arith in
-    let h = stands_point (p + 1) S q s e in
-    (
+    let h = stands_point (p + 1) S q s e in (
       inr (among_right (head_after r.head (Join p)) (points_from (p + 1) S) _ (subst (λ z. Among (points_from (p + 1) S) (At z)) same h.0)),
       (λ j. inr (among_right (head_after r.head (Join p)) (points_from (p + 1) S) _ (subst (λ z. Among (points_from (p + 1) S) (Join z)) same (h.1 j)))),
     )

@@ -1,5 +1,5 @@
 -- Targets that are marked as they are added.
-use Rattle.std.proofs.Common.{◌≡◌, ◌≢◌, ℕ, ◌+◌, ◌-◌, ◌<◌, ◌≤◌, ◌⊎◌, inl, inr, ⊎_elim, Bool, true, false, List, [], ◌∷◌, ◌++◌, length, get_or, set, take, map, reverse, refl, sym, ap, ◌∙◌, subst, arith}
+use Rattle.std.proofs.Common.{◌≡◌, ◌≢◌, ℕ, ◌+◌, ◌-◌, ◌<◌, ◌≤◌, ◌⊎◌, inl, inr, ⊎_elim, Bool, true, false, List, [], ◌∷◌, ◌++◌, length, get_or, set, take, map, reverse, sym, ap, ◌∙◌, subst, arith}
 use Rattle.std.specs.List.{Contains}
 use Rattle.std.proofs.lemmas.Bool.{cases_eq, cases_lt, false≢true}
 use Rattle.std.proofs.lemmas.List.{get_or-set_same, get_or-set_other, length-set, take_more, take_all, map_push, get_or-reverse}
@@ -32,9 +32,9 @@ one_marked labels marks row k in_k once m off =
       seen = λ j in_j there. ⊎_elim
           (λ (e : j ≡ k). ap (λ z. get_or (set marks k true) z false) e ∙ get_or-set_same marks k true false k_in)
           (λ (ne : j ≢ k). get_or-set_other marks k j true false ne ∙ ⊎_elim
-              (λ c. m.seen j in_j c)
-              (λ e. absurd (places_differ labels j k once in_j in_k ne e))
-              (Contains-push_cases row (get_or labels k Exit) (get_or labels j Exit) there))
+          (λ c. m.seen j in_j c)
+          (λ e. absurd (places_differ labels j k once in_j in_k ne e))
+          (Contains-push_cases row (get_or labels k Exit) (get_or labels j Exit) there))
           (cases_eq j k);
       once = once_push row (get_or labels k Exit) m.once (λ c. false≢true (sym off ∙ m.seen k in_k c));
     }

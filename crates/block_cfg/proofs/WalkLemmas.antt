@@ -1,6 +1,5 @@
 -- The steps of the walk.
-use Rattle.std.proofs.Common.{◌≡◌, ℕ, zero, suc, ◌+◌, ◌-◌, ◌*◌, ◌<◌, ◌≤◌, ◌&&◌, ◌⊎◌, inl, inr, ⊎_elim, Bool, true, false, List, [], ◌∷◌, ◌++◌, Option, Some, None, length, get_or, set, drop, reverse, refl, sym, ap, ap₂, ◌∙◌, subst, arith, if◌then◌else◌}
-use Rattle.std.specs.List.{All, AllPairs, AllZip}
+use Rattle.std.proofs.Common.{◌≡◌, ℕ, ◌+◌, ◌*◌, ◌<◌, ◌≤◌, ◌&&◌, Bool, true, false, List, [], ◌∷◌, ◌++◌, Option, Some, None, length, set, drop, reverse, refl, sym, ap, ap₂, ◌∙◌, subst, arith, if◌then◌else◌}
 use Rattle.std.proofs.lemmas.List.{append-nil, append_assoc, length-drop, length_push, reverse-append, set_at}
 use Rattle.std.proofs.lemmas.List.Elements.{All-push, All-weaker, All-get_or}
 use Rattle.std.proofs.lemmas.List.Quantifiers.{all_pairs_push}
@@ -204,11 +203,11 @@ pub instr_then : (a b c : Found) (live live' : Bool) (labels : List Node) (after
 instr_then a b c live live' labels after k i rest whole p e whole_is e_is k_is live_is f g =
     let end = p + count (onto i done) in
     let points_are : points_in live (onto i done) p ++ points_in live' rest e ≡ points_in live whole p =
-        ap₂ (λ (l : Bool) (z : ℕ). points_in live (onto i done) p ++ points_in l rest z) live_is e_is ∙ sym (points_onto live i rest p) ∙ ap (λ z. points_in live z p) (sym whole_is) in
+    ap₂ (λ (l : Bool) (z : ℕ). points_in live (onto i done) p ++ points_in l rest z) live_is e_is ∙ sym (points_onto live i rest p) ∙ ap (λ z. points_in live z p) (sym whole_is) in
     let k_there : k ≡ first_of end rest after = k_is ∙ ap (λ z. first_of z rest after) e_is in
     let lists_are : lists live labels k (onto i done) p ++ lists live' labels after rest e ≡ lists live labels after whole p =
-        ap₂ (λ (x y : List (List Node)). x ++ y) (ap (λ z. lists live labels z (onto i done) p) k_there) (ap₂ (λ (l : Bool) (z : ℕ). lists l labels after rest z) live_is e_is)
-        ∙ sym (lists_onto live labels after i rest p) ∙ ap (λ z. lists live labels after z p) (sym whole_is) in
+    ap₂ (λ (x y : List (List Node)). x ++ y) (ap (λ z. lists live labels z (onto i done) p) k_there) (ap₂ (λ (l : Bool) (z : ℕ). lists l labels after rest z) live_is e_is)
+    ∙ sym (lists_onto live labels after i rest p) ∙ ap (λ z. lists live labels after z p) (sym whole_is) in
     subst (λ z. Finds a c z (lists live labels after whole p)) points_are
     (subst (λ z. Finds a c (points_in live (onto i done) p ++ points_in live' rest e) z) lists_are
     (finds_then a b c (points_in live (onto i done) p) (points_in live' rest e) (lists live labels k (onto i done) p) (lists live' labels after rest e) f g))
@@ -220,7 +219,7 @@ nothing_behind old new W P X Y I f =
 
 pub block_found : (old new : Found) (live : Bool) (i : Instr) (kind : Option ValType) (xs : List Instr) (labels : List Node) (k : Node) (p : ℕ) → i ≡ v.Block kind xs
     → Finds old new (where_live live (At p ∷ Join p ∷ []) ++ points_in live (code_of xs) (p + 1))
-        (where_live live (first_of (p + 1) (code_of xs) (Join p) ∷ []) ∷ where_live live (k ∷ []) ∷ lists live (Join p ∷ labels) (Join p) (code_of xs) (p + 1))
+    (where_live live (first_of (p + 1) (code_of xs) (Join p) ∷ []) ∷ where_live live (k ∷ []) ∷ lists live (Join p ∷ labels) (Join p) (code_of xs) (p + 1))
     → Finds old new (points_in live (onto i done) p) (lists live labels k (onto i done) p)
 block_found old new live i kind xs labels k p e f =
     subst (λ c. Finds old new (points_in live c p) (lists live labels k c p)) (sym (ap (λ z. onto z done) e ∙ onto-block kind xs done))
@@ -228,7 +227,7 @@ block_found old new live i kind xs labels k p e f =
 
 pub loop_found : (old new : Found) (live : Bool) (i : Instr) (kind : Option ValType) (xs : List Instr) (labels : List Node) (k : Node) (p : ℕ) → i ≡ v.Loop kind xs
     → Finds old new (where_live live (At p ∷ Join p ∷ []) ++ points_in live (code_of xs) (p + 1))
-        (where_live live (first_of (p + 1) (code_of xs) (Join p) ∷ []) ∷ where_live live (k ∷ []) ∷ lists live (At p ∷ labels) (Join p) (code_of xs) (p + 1))
+    (where_live live (first_of (p + 1) (code_of xs) (Join p) ∷ []) ∷ where_live live (k ∷ []) ∷ lists live (At p ∷ labels) (Join p) (code_of xs) (p + 1))
     → Finds old new (points_in live (onto i done) p) (lists live labels k (onto i done) p)
 loop_found old new live i kind xs labels k p e f =
     subst (λ c. Finds old new (points_in live c p) (lists live labels k c p)) (sym (ap (λ z. onto z done) e ∙ onto-loop kind xs done))
@@ -236,9 +235,9 @@ loop_found old new live i kind xs labels k p e f =
 
 pub if_found : (old new : Found) (live : Bool) (i : Instr) (kind : Option ValType) (xs ys : List Instr) (labels : List Node) (k : Node) (p : ℕ) → i ≡ v.If kind xs ys
     → (let f = p + 1 + count (code_of xs) in
-        Finds old new (where_live live (At p ∷ Join p ∷ []) ++ (points_in live (code_of xs) (p + 1) ++ points_in live (code_of ys) f))
-          (where_live live (first_of (p + 1) (code_of xs) (Join p) ∷ first_of f (code_of ys) (Join p) ∷ []) ∷ where_live live (k ∷ [])
-            ∷ (lists live (Join p ∷ labels) (Join p) (code_of xs) (p + 1) ++ lists live (Join p ∷ labels) (Join p) (code_of ys) f)))
+    Finds old new (where_live live (At p ∷ Join p ∷ []) ++ (points_in live (code_of xs) (p + 1) ++ points_in live (code_of ys) f))
+    (where_live live (first_of (p + 1) (code_of xs) (Join p) ∷ first_of f (code_of ys) (Join p) ∷ []) ∷ where_live live (k ∷ [])
+    ∷ (lists live (Join p ∷ labels) (Join p) (code_of xs) (p + 1) ++ lists live (Join p ∷ labels) (Join p) (code_of ys) f)))
     → Finds old new (points_in live (onto i done) p) (lists live labels k (onto i done) p)
 if_found old new live i kind xs ys labels k p e g =
     let f = p + 1 + count (code_of xs) in

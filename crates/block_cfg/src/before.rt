@@ -47,7 +47,11 @@ pub(crate) fn turned(alloc: Global, next: &[Items<Point>]) -> Result<Vec<Items<P
 {
     let mut before = empty_lists(alloc, next.len())?;
     for number in 0..next.len() {
-        add_before(&mut before, point_of_number(number), next[number].as_slice())?;
+        add_before(
+            &mut before,
+            point_of_number(number),
+            next[number].as_slice(),
+        )?;
     }
     Ok(before)
 }

@@ -73,12 +73,7 @@ fn push_points(points: &mut Vec<Point>, at: u32, live: bool) -> Result<(), NoMem
 }
 
 /// Begins with a block, loop or if: its lists are empty so far. Its answer is where they stand.
-fn open_lists(
-    alloc: Global,
-    found: &mut Found,
-    at: u32,
-    live: bool,
-) -> Result<usize, NoMemory>
+fn open_lists(alloc: Global, found: &mut Found, at: u32, live: bool) -> Result<usize, NoMemory>
     ensures place { IfOk result (λ place. place ≡ length found.old.next.items) }
     ensures points { IfOk result (λ _. found.new.points.items ≡ found.old.points.items ++ where_live live (At at ∷ Join at ∷ [])) }
     ensures next { IfOk result (λ _. found.new.next.items ≡ found.old.next.items ++ [] ∷ [] ∷ []) }
@@ -184,12 +179,30 @@ fn walk_instr(
     match instr {
         Instr::Block(_, inner) => {
             let label = Point::Join(Pos(at));
-            let end = walk_block(alloc, labels, found, label, inner.as_slice(), at, last, live)?;
+            let end = walk_block(
+                alloc,
+                labels,
+                found,
+                label,
+                inner.as_slice(),
+                at,
+                last,
+                live,
+            )?;
             Ok(end)
         }
         Instr::Loop(_, inner) => {
             let label = Point::At(Pos(at));
-            let end = walk_block(alloc, labels, found, label, inner.as_slice(), at, last, live)?;
+            let end = walk_block(
+                alloc,
+                labels,
+                found,
+                label,
+                inner.as_slice(),
+                at,
+                last,
+                live,
+            )?;
             Ok(end)
         }
         Instr::If(_, first, second) => {

@@ -1,7 +1,7 @@
-use Rattle.std.proofs.Common.{◌≡◌, ℕ, ◌<◌, ◌+◌, [], List, length, sym, ◌∙◌, subst, arith}
+use Rattle.std.proofs.Common.{List, sym, ◌∙◌, subst, arith}
 use Rattle.std.specs.List.{Contains}
 use Rattle.wasm_types.specs.declared.place.Node.{Node}
-use Rattle.block_cfg.specs.Graph.{EachOnce, number, row_of}
+use Rattle.block_cfg.specs.Graph.{EachOnce}
 use Rattle.block_cfg.proofs.BeforeLemmas.{IsAdded, read_row, turned_new, turned_more, turned_all}
 use Rattle.block_cfg.proofs.before.turned.Goals as goal
 

@@ -1,4 +1,4 @@
-use Rattle.std.proofs.Common.{◌≡◌, ℕ, ◌+◌, ◌*◌, ◌<◌, ◌≤◌, ◌↔◌, List, [], ◌∷◌, ◌++◌, true, length, reverse, sym, ap, ap₂, ◌∙◌, subst, arith}
+use Rattle.std.proofs.Common.{◌≡◌, ◌<◌, ◌≤◌, ◌↔◌, List, [], ◌∷◌, ◌++◌, true, length, reverse, sym, ap, ◌∙◌, subst, arith}
 use Rattle.std.specs.List.{Contains}
 use Rattle.std.proofs.lemmas.Grind.{common_steps}
 use Rattle.wasm_types.specs.declared.place.Node.{Node}
@@ -11,7 +11,6 @@ use Rattle.block_cfg.specs.Points.{IsCfgOf}
 use Rattle.block_cfg.specs.Walk.{Adds, lists, points_in}
 use Rattle.block_cfg.proofs.CfgLemmas.{all_points, all_lists, is_cfg, within, numbered, next_once, next_length}
 use Rattle.block_cfg.proofs.body.edges.Goals as goal
-
 
 walked : (labels : List Node) (old new : List (List Node)) (c : Code) → labels ≡ Exit ∷ [] → old ≡ [] ∷ [] → Adds old new (lists true (reverse labels) Exit c 0) → Adds ([] ∷ []) new (all_lists c)
 walked labels old new c e f a = subst (λ z. Adds z new (all_lists c)) f (subst (λ (z : List Node). Adds old new (lists true (reverse z) Exit c 0)) e a)
@@ -68,7 +67,7 @@ returns c =
     let pushed : c.push-2.new.self.items ≡ c.walk_code.new.found.points.items ++ Exit ∷ [] = grind (arith, common_steps) in
     let points : c.push-2.new.self.items ≡ all_points code = pushed ∙ ap (λ (z : List Node). z ++ Exit ∷ []) (c.in_ok-walk_code.ensures.found.points ∙ ap (λ (z : List Node). z ++ points_in true code 0) c.in_ok-found.ensures.points) in
     let turned : (a b : Node) → Contains (row_of before b) a ↔ Contains (row_of next a) b =
-        subst (λ (z : List (List Node)). (a b : Node) → Contains (row_of before b) a ↔ Contains (row_of z a) b) c.as_slice.ensures.value c.in_ok-before.ensures.exact in
+    subst (λ (z : List (List Node)). (a b : Node) → Contains (row_of before b) a ↔ Contains (row_of z a) b) c.as_slice.ensures.value c.in_ok-before.ensures.exact in
     let is : IsCfgOf c.args.body.now (record { points = all_points code; next = next; before = before }) =
-        is_cfg code next adds before turned c.in_ok-before.ensures.once c.args.body.now (ap code_of c.as_slice-code.ensures) in
+    is_cfg code next adds before turned c.in_ok-before.ensures.once c.args.body.now (ap code_of c.as_slice-code.ensures) in
     subst (λ (g : Graph). IsCfgOf c.args.body.now g) (ap (λ (z : List Node). record { points = z; next = next; before = before }) (sym points) ∙ sym c.of.ensures) is

@@ -1,4 +1,4 @@
-use Rattle.std.proofs.Common.{◌≡◌, ℕ, ◌<◌, ◌∷◌, ◌++◌, [], length, get_or, reverse, inl, inr, ⊎_elim, sym, ap, ◌∙◌, arith}
+use Rattle.std.proofs.Common.{reverse, arith}
 use Rattle.block_cfg.specs.Walk.{target_of}
 use Rattle.block_cfg.proofs.TargetLemmas.{table_begin, table_more, table_all}
 use Rattle.block_cfg.proofs.targets.table.Goals as goal

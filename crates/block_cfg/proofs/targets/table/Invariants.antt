@@ -1,4 +1,4 @@
-use Rattle.std.proofs.Common.{◌≡◌, ◌↔◌, ◌∷◌, Contains, map, reverse, take}
+use Rattle.std.proofs.Common.{◌↔◌, ◌∷◌, Contains, map, reverse, take}
 use Rattle.wasm_types.specs.declared.place.Node.{Node}
 use Rattle.block_cfg.specs.Walk.{Marks, target_of}
 use Rattle.block_cfg.proofs.targets.table.Given as goal

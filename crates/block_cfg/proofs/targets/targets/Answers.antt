@@ -1,4 +1,4 @@
-use Rattle.std.proofs.Common.{◌≡◌, IfOk, ◌∷◌, [], List, map, reverse, sym, ap, ◌∙◌, subst}
+use Rattle.std.proofs.Common.{IfOk, ◌∷◌, [], List, map, reverse, sym, ap, ◌∙◌, subst}
 use Rattle.wasm_types.specs.declared.place.Node.{Node}
 use Rattle.wasm_types.specs.declared.instr.Instr.{Instr}
 use Rattle.block_cfg.specs.Walk.{SameOnce, goes_of, target_of}

@@ -1,16 +1,15 @@
-use Rattle.std.proofs.Common.{◌≡◌, ◌<◌, ◌≤◌, ◌+◌, ◌-◌, ◌*◌, ◌∙◌, ◌∷◌, ◌++◌, [], ◌&&◌, Bool, true, false, List, length, drop, reverse, refl, ap, ap₂, sym, subst, arith}
+use Rattle.std.proofs.Common.{◌≡◌, ◌<◌, ◌+◌, ◌-◌, ◌∙◌, ◌∷◌, ◌++◌, [], true, List, length, drop, reverse, refl, ap, ap₂, sym, subst, arith}
 use Rattle.std.proofs.Math.ListN.{drop_of_length-le}
 use Rattle.std.proofs.lemmas.List.{append_assoc}
 use Rattle.wasm_types.specs.declared.instr.Instr.{Instr}
 use Rattle.wasm_types.specs.declared.instr.Instr.TheVariants as v
 use Rattle.block_cfg.specs.Graph.{EachOnce}
 use Rattle.wasm_types.specs.declared.place.Node.{Node}
-use Rattle.wasm_types.specs.Code.{Code, done, onto, code_of, count, is_plain}
+use Rattle.wasm_types.specs.Code.{done, onto, code_of, count, is_plain}
 use Rattle.wasm_types.specs.Nodes.{At, Join}
 use Rattle.wasm_types.proofs.CodeLemmas.{plain_is, count-next, code-next}
-use Rattle.block_cfg.specs.declared.walk.Found.{Found}
-use Rattle.block_cfg.specs.Walk.{Adds, AreAround, Finds, LabelsBelow, LabelsExist, SameOnce, first_of, goes_of, goes_on, lists, next_at, points_in, where_live}
-use Rattle.block_cfg.proofs.WalkLemmas.{lists_onto, points_onto, next_first, finds_none, finds_then, adds_then, adds_moved, block_adds, instr_then, block_found, loop_found, if_found, plain_found, block_count, loop_count, if_count, plain_count, exist_onto, exist_block, exist_loop, exist_if, exist_plain, around_once, around_later, around_more, row_is, row_same}
+use Rattle.block_cfg.specs.Walk.{Adds, AreAround, Finds, LabelsBelow, LabelsExist, SameOnce, first_of, goes_of, lists, next_at, points_in, where_live}
+use Rattle.block_cfg.proofs.WalkLemmas.{next_first, finds_none, adds_then, adds_moved, block_adds, instr_then, block_found, loop_found, if_found, plain_found, block_count, loop_count, if_count, plain_count, exist_onto, exist_block, exist_loop, exist_if, exist_plain, around_once, around_later, around_more, row_is, row_same}
 use Rattle.block_cfg.proofs.walk.+walk.Goals as goal
 
 pub walk_block-returns-clause-found : goal.walk_block-returns-clause-found
@@ -20,12 +19,12 @@ walk_block-returns-clause-found t c =
     let inner = code_of c.args.inner.now in
     let rows = lists live (c.args.label ∷ reverse c.args.labels.now.items) (Join c.args.at) inner (c.args.at + 1) in
     let filled : Adds (old.next.items ++ [] ∷ [] ∷ []) c.walk_inner.new.found.next.items rows =
-        subst (λ (z : List (List Node)). Adds z c.walk_inner.new.found.next.items rows) c.in_ok-place.ensures.next c.in_ok-end.ensures.found.next in
+    subst (λ (z : List (List Node)). Adds z c.walk_inner.new.found.next.items rows) c.in_ok-place.ensures.next c.in_ok-end.ensures.found.next in
     record {
       points = c.in_ok-end.ensures.found.points ∙ ap (λ z. z ++ points_in live inner (c.args.at + 1)) c.in_ok-place.ensures.points ∙ append_assoc old.points.items (where_live live (At c.args.at ∷ Join c.args.at ∷ [])) (points_in live inner (c.args.at + 1));
       next = subst (λ (z : Node). Adds old.next.items c.close_lists.new.next.items (where_live live (first_of (c.args.at + 1) inner (Join c.args.at) ∷ []) ∷ where_live live (z ∷ []) ∷ rows)) c.next_point-after.ensures
           (block_adds live old.next.items c.walk_inner.new.found.next.items c.close_lists.new.next.items rows c.in_ok-row.row (first_of (c.args.at + 1) inner (Join c.args.at) ∷ []) c.next_point-after.result c.in_ok-place.place c.in_ok-place.ensures.place filled
-              (row_is c.in_ok-row.row c.first_point.result (first_of (c.args.at + 1) inner (Join c.args.at)) c.in_ok-row.ensures c.first_point.ensures) c.in_ok-close_lists.ensures);
+          (row_is c.in_ok-row.row c.first_point.result (first_of (c.args.at + 1) inner (Join c.args.at)) c.in_ok-row.ensures c.first_point.ensures) c.in_ok-close_lists.ensures);
     }
 
 pub walk_if-returns-clause-found : goal.walk_if-returns-clause-found
@@ -44,12 +43,12 @@ walk_if-returns-clause-found t c =
     let Q = points_in live y f in
     let goes = first_of (p + 1) x (Join p) ∷ first_of f y (Join p) ∷ [] in
     let first_filled : Adds (old.next.items ++ [] ∷ [] ∷ []) c.walk_inner.new.found.next.items X =
-        subst (λ (z : List (List Node)). Adds z c.walk_inner.new.found.next.items X) c.in_ok-place.ensures.next c.in_ok-middle.ensures.found.next in
+    subst (λ (z : List (List Node)). Adds z c.walk_inner.new.found.next.items X) c.in_ok-place.ensures.next c.in_ok-middle.ensures.found.next in
     let second_filled : Adds c.walk_inner.new.found.next.items c.walk_inner-2.new.found.next.items Y =
-        adds_moved live c.walk_inner.new.found.next.items c.walk_inner-2.new.found.next.items c.walk_inner.new.labels.items labels (Join p) (Join p) y c.in_ok-middle.middle f c.in_ok-middle.ensures.labels c.in_ok-middle.ensures.end c.in_ok-end.ensures.found.next in
+    adds_moved live c.walk_inner.new.found.next.items c.walk_inner-2.new.found.next.items c.walk_inner.new.labels.items labels (Join p) (Join p) y c.in_ok-middle.middle f c.in_ok-middle.ensures.labels c.in_ok-middle.ensures.end c.in_ok-end.ensures.found.next in
     let filled = adds_then (old.next.items ++ [] ∷ [] ∷ []) c.walk_inner.new.found.next.items c.walk_inner-2.new.found.next.items X Y first_filled second_filled in
     let row : SameOnce c.in_ok-row.row goes = row_same c.in_ok-row.row _ goes
-        (ap₂ (λ (a b : Node). a ∷ b ∷ []) c.first_point.ensures (c.first_point-2.ensures ∙ ap (λ z. first_of z y (Join p)) c.in_ok-middle.ensures.end)) c.in_ok-row.ensures in
+    (ap₂ (λ (a b : Node). a ∷ b ∷ []) c.first_point.ensures (c.first_point-2.ensures ∙ ap (λ z. first_of z y (Join p)) c.in_ok-middle.ensures.end)) c.in_ok-row.ensures in
     record {
       points = c.in_ok-end.ensures.found.points ∙ ap₂ (λ (a b : List Node). a ++ b) (c.in_ok-middle.ensures.found.points ∙ ap (λ z. z ++ P) c.in_ok-place.ensures.points) (ap (λ z. points_in live y z) c.in_ok-middle.ensures.end)
           ∙ append_assoc (old.points.items ++ W) P Q ∙ append_assoc old.points.items W (P ++ Q);
@@ -67,7 +66,7 @@ walk_code-walk_instr-requires t c =
       omega arith,
       (
         subst (λ z. LabelsExist z (onto c.instr-item.result done)) (ap length (sym inv.labels))
-        (exist_onto (length c.args.labels.now.items) c.instr-item.result rest (subst (λ z. LabelsExist (length c.args.labels.now.items) z) next inv.exist)).0,
+            (exist_onto (length c.args.labels.now.items) c.instr-item.result rest (subst (λ z. LabelsExist (length c.args.labels.now.items) z) next inv.exist)).0,
         (subst (λ z. AreAround z c.loop-instr.here) (sym inv.labels) inv.around, omega arith),
       ),
     )
@@ -82,7 +81,7 @@ walk_code-loop-instr-preserved t c =
     let end : c.in_ok-here.here ≡ c.loop-instr.here + count (onto c.instr-item.result done) = c.in_ok-here.ensures.end in
     let after = next_first c.args.code.now c.loop-instr.instr-index (c.loop-instr.left - 1) c.last_point-last.result c.args.after c.in_ok-here.here lt (omega arith) c.last_point-last.ensures.last c.last_point-last.ensures.other in
     let head : Finds c.loop-instr.found c.walk_instr.new.found (points_in c.loop-instr.reached (onto c.instr-item.result done) c.loop-instr.here) (lists c.loop-instr.reached (reverse c.args.labels.now.items) (next_at c.last_point-last.result c.in_ok-here.here) (onto c.instr-item.result done) c.loop-instr.here) =
-        subst (λ (z : List Node). Finds c.loop-instr.found c.walk_instr.new.found (points_in c.loop-instr.reached (onto c.instr-item.result done) c.loop-instr.here) (lists c.loop-instr.reached (reverse z) (next_at c.last_point-last.result c.in_ok-here.here) (onto c.instr-item.result done) c.loop-instr.here)) inv.labels c.in_ok-here.ensures.found in
+    subst (λ (z : List Node). Finds c.loop-instr.found c.walk_instr.new.found (points_in c.loop-instr.reached (onto c.instr-item.result done) c.loop-instr.here) (lists c.loop-instr.reached (reverse z) (next_at c.last_point-last.result c.in_ok-here.here) (onto c.instr-item.result done) c.loop-instr.here)) inv.labels c.in_ok-here.ensures.found in
     record {
       labels = c.in_ok-here.ensures.labels ∙ inv.labels;
       left = omega arith;

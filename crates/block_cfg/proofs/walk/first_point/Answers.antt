@@ -1,4 +1,4 @@
-use Rattle.std.proofs.Common.{◌≡◌, length, arith}
+use Rattle.std.proofs.Common.{arith}
 use Rattle.std.proofs.lemmas.Bool.Decides.{nat_tests}
 use Rattle.block_cfg.proofs.WalkLemmas.{first_some}
 use Rattle.block_cfg.proofs.walk.first_point.Goals as goal
