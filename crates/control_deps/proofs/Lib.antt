@@ -1,0 +1,3 @@
+pub mod SpotLemmas
+pub mod FitLemmas
+pub mod ShadowLemmas

@@ -1,7 +1,8 @@
 //! The shadow of an if or a branch: the nodes that it decides about (docs/ANALYSES.md, "Shadow").
 
-ghost use Rattle.std.specs.Prelude.{◌≡◌, ◌↔◌, ℕ, ◌<◌, ◌+◌, Bool, List, All, AllPairs, Contains, IfOk, IfSome, IsTrue, length, slice_get};
+ghost use Rattle.std.specs.Prelude.{◌≡◌, ◌↔◌, ◌<◌, ◌+◌, ◌⊎◌, List, AllPairs, IfOk, IfSome, IsTrue, length, slice_get};
 ghost use Rattle.wasm_types.specs.Labels.{Label};
+ghost use Rattle.wasm_types.specs.Nodes.{Join};
 ghost use Rattle.control_deps.specs.Chain.{Decides, IsChain, IsOfLabel, IsLabelAt, StandsWithin, holds, joins_at, live_at};
 ghost use Rattle.control_deps.specs.Nest.{AreNested};
 ghost use Rattle.control_deps.specs.Deciders.{AddsDecider, AreDeciders, Tells};
@@ -61,6 +62,16 @@ fn is_of_block(spots: &[Spot], block: Pos, spot: Spot, node: Node) -> bool
     spot.form == Form::Loop && is_inside(spots, block.0 as usize + 1, spot.stop as usize, node)
 }
 
+/// Whether a node is the end of the body, or stands behind a branch.
+fn is_of_body(spots: &[Spot], after: usize, node: Node) -> bool
+    ensures { IsTrue result ↔ ((node ≡ Node.Exit) ⊎ StandsWithin spots.now after (length spots.now) node) }
+{
+    if node == Node::Exit {
+        return true;
+    }
+    is_inside(spots, after, spots.len(), node)
+}
+
 /// Whether a branch decides about a node, where `around` is around it, `after` is the position behind it, and `label` is its outermost target.
 fn decides(spots: &[Spot], after: usize, around: Option<Pos>, label: u32, node: Node) -> bool
     requires nested { AreNested spots.now }
@@ -68,7 +79,7 @@ fn decides(spots: &[Spot], after: usize, around: Option<Pos>, label: u32, node: 
     ensures { (ctx : List Label) → IsChain spots.now around ctx → label < length ctx → (IsTrue result ↔ Decides spots.now after ctx label node) }
 {
     let Some(block) = around else {
-        return node == Node::Exit || is_inside(spots, after, spots.len(), node);
+        return is_of_body(spots, after, node);
     };
     let spot = spots[block.0 as usize];
     if is_of_block(spots, block, spot, node) {
@@ -80,23 +91,31 @@ fn decides(spots: &[Spot], after: usize, around: Option<Pos>, label: u32, node: 
     decides(spots, after, spot.around, label - 1, node)
 }
 
+/// Whether a node is the join of an if, or inside it.
+fn is_of_if(spots: &[Spot], branch: Pos, stop: u32, node: Node) -> bool
+    ensures { IsTrue result ↔ ((node ≡ Join branch.0) ⊎ StandsWithin spots.now (branch.0 + 1) stop node) }
+{
+    if node == Node::Join(branch) {
+        return true;
+    }
+    is_inside(spots, branch.0 as usize + 1, stop as usize, node)
+}
+
 /// Whether the shadow of a position has a node.
 fn shades(spots: &[Spot], branch: Pos, node: Node) -> bool
     requires { AreNested spots.now }
     ensures { Tells spots.now branch.0 node result }
 {
-    let Some(spot) = spots.get(branch.0 as usize).copied() else {
+    if branch.0 as usize >= spots.len() {
         return false;
-    };
+    }
+    let spot = spots[branch.0 as usize];
     if !spot.live {
         return false;
     }
-    let after = branch.0 as usize + 1;
     match spot.form {
-        Form::If => {
-            node == Node::Join(branch) || is_inside(spots, after, spot.stop as usize, node)
-        }
-        Form::Branch(label) => decides(spots, after, spot.around, label, node),
+        Form::If => is_of_if(spots, branch, spot.stop, node),
+        Form::Branch(label) => { decides(spots, branch.0 as usize + 1, spot.around, label, node) }
         _ => false,
     }
 }
