@@ -1,19 +1,18 @@
 -- What is kept of positions fits their sites.
-use Rattle.std.proofs.Common.{◌≡◌, ℕ, zero, suc, ◌+◌, ◌≤◌, ◌<◌, ◌&&◌, ◌⊎◌, inl, inr, ⊎_elim, Bool, true, false, true≢false, List, [], ◌∷◌, ◌++◌, Option, Some, None, length, replicate, drop, refl, sym, ap, ◌∙◌, subst, arith, add-one}
+use Rattle.std.proofs.Common.{◌≡◌, ℕ, zero, suc, ◌+◌, ◌≤◌, ◌<◌, ◌&&◌, inl, inr, Bool, true, false, true≢false, List, [], ◌∷◌, ◌++◌, Option, Some, None, length, replicate, drop, refl, sym, ap, ◌∙◌, subst, arith, add-one}
 use Rattle.std.specs.List.{All, AllZip, slice_get}
 use Rattle.wasm_types.specs.declared.module.Pos.{Pos}
-use Rattle.wasm_types.specs.declared.module.ValType.{ValType}
 use Rattle.wasm_types.specs.declared.instr.Instr.{Instr}
 use Rattle.wasm_types.specs.declared.instr.Instr as instr
 use Rattle.wasm_types.specs.declared.place.Node.{Node}
 use Rattle.wasm_types.specs.declared.place.Node.TheVariants as node
 use Rattle.wasm_types.specs.declared.place.Node.TheVariants.{Exit}
 use Rattle.wasm_types.specs.Code.{Code, done, one, block, repeat, branch, count}
-use Rattle.wasm_types.specs.Marked.{Marked, plain, marked, size}
+use Rattle.wasm_types.specs.Marked.{plain, marked, size}
 use Rattle.wasm_types.specs.Actions.{Callees}
-use Rattle.wasm_types.specs.Nodes.{At, Join, named, made}
-use Rattle.wasm_types.specs.Labels.{arity, arities, outermost, Label, block_label, loop_label, body_label, first}
-use Rattle.wasm_types.specs.Sites.{Head, DoHead, BlockHead, LoopHead, IfHead, BrHead, BrIfHead, BrTableHead, ReturnHead, UnreachableHead, HasJoin, Branches, OneOf, Site, Sites, IsSite, sites, body_sites}
+use Rattle.wasm_types.specs.Nodes.{Join, named, made}
+use Rattle.wasm_types.specs.Labels.{arity, arities, outermost, Label, block_label, loop_label, body_label}
+use Rattle.wasm_types.specs.Sites.{Head, DoHead, BlockHead, LoopHead, IfHead, BrHead, BrIfHead, BrTableHead, ReturnHead, UnreachableHead, HasJoin, Branches, OneOf, Site, Sites, sites, body_sites}
 use Rattle.wasm_types.specs.Shadow.{Inside, at_position, at_join}
 use Rattle.block_cfg.specs.Walk.{goes_on, LabelsBelow, LabelsExist}
 use Rattle.block_cfg.proofs.SiteLemmas.{size_marked}
@@ -21,7 +20,7 @@ use Rattle.control_deps.specs.declared.spot.Form.{Form}
 use Rattle.control_deps.specs.declared.spot.Form.TheVariants as form
 use Rattle.control_deps.specs.declared.spot.Spot.{Spot}
 use Rattle.control_deps.specs.Spots.{place, greatest, form_of, spots_in}
-use Rattle.control_deps.specs.Chain.{holds, is_loop, live_at, joins_at, StandsWithin, IsLabelAt, IsOutermost, IsChain}
+use Rattle.control_deps.specs.Chain.{holds, live_at, joins_at, StandsWithin, IsLabelAt, IsChain}
 use Rattle.control_deps.proofs.SpotLemmas.{length_spots}
 
 -- ---- what fits a site

@@ -1,5 +1,5 @@
 -- What the test of a shadow tells.
-use Rattle.std.proofs.Common.{◌≡◌, ℕ, zero, suc, ◌+◌, ◌≤◌, ◌<◌, ◌⊎◌, ◌↔◌, inl, inr, ⊎_elim, Bool, true, false, true≢false, List, [], ◌∷◌, Option, Some, None, length, max, IsTrue, IfSome, refl, sym, ap, ◌∙◌, subst, arith}
+use Rattle.std.proofs.Common.{◌≡◌, ℕ, zero, suc, ◌+◌, ◌≤◌, ◌<◌, ◌⊎◌, ◌↔◌, inl, inr, ⊎_elim, Bool, true, false, true≢false, List, [], ◌∷◌, Option, Some, None, length, max, IsTrue, IfSome, not, refl, sym, ap, ◌∙◌, subst, arith}
 use Rattle.std.specs.List.{AllZip, slice_get}
 use Rattle.std.proofs.lemmas.Bool.{cases_lt}
 use Rattle.std.proofs.lemmas.Option.{slice_get_within}
@@ -11,9 +11,9 @@ use Rattle.wasm_types.specs.declared.place.Node.TheVariants as node
 use Rattle.wasm_types.specs.Code.{code_of}
 use Rattle.wasm_types.specs.Marked.{marked}
 use Rattle.wasm_types.specs.Actions.{Callees}
-use Rattle.wasm_types.specs.Nodes.{At, Join}
+use Rattle.wasm_types.specs.Nodes.{Join}
 use Rattle.wasm_types.specs.Labels.{Label, join_of, loop_of, start_of, stop_of}
-use Rattle.wasm_types.specs.Shadow.{Inside, at_position, at_join, InShadow, arms, if_join, later, around, looping}
+use Rattle.wasm_types.specs.Shadow.{InShadow, arms, if_join, later, around, looping}
 use Rattle.wasm_types.specs.Sites.{Head, DoHead, BlockHead, LoopHead, IfHead, BrHead, BrIfHead, BrTableHead, ReturnHead, UnreachableHead, Branches, OneOf, Site, Sites, IsSite, body_sites}
 use Rattle.control_deps.specs.declared.spot.Form.{Form}
 use Rattle.control_deps.specs.declared.spot.Form.TheVariants as form
@@ -22,7 +22,7 @@ use Rattle.control_deps.specs.Spots.{greatest}
 use Rattle.control_deps.specs.Nest.{AreNested, IsNestOf}
 use Rattle.control_deps.specs.Chain.{StandsWithin, IsChain, IsLabelAt, IsOfLabel, Decides}
 use Rattle.control_deps.specs.Deciders.{Tells}
-use Rattle.control_deps.proofs.FitLemmas.{form_of_head, RisesFrom, rises_lower, Fits, IsFit, FitsAt, fits_at, site_spot, within_inside, inside_within, body_fits}
+use Rattle.control_deps.proofs.FitLemmas.{form_of_head, RisesFrom, Fits, IsFit, FitsAt, fits_at, site_spot, within_inside, inside_within, body_fits}
 
 -- ---- the outermost target
 
@@ -245,7 +245,7 @@ module _ (nest : List Spot) (S : Sites) (fit : AllZip (IsFit nest) nest S) where
 
 -- ---- what is told of each body
 
-fit_of : (nest : List Spot) (body : Body) (cs : Callees) (t : ℕ) (w : ℕ → Bool) → IsNestOf body nest → AllZip (IsFit nest) nest (body_sites cs t (marked w 0 (code_of body.code)))
+pub fit_of : (nest : List Spot) (body : Body) (cs : Callees) (t : ℕ) (w : ℕ → Bool) → IsNestOf body nest → AllZip (IsFit nest) nest (body_sites cs t (marked w 0 (code_of body.code)))
 fit_of nest body cs t w is = body_fits cs w t (code_of body.code) nest is.is is.has_points.labels
 
 pub tells_no_spot : (nest : List Spot) (p : ℕ) (n : Node) → slice_get nest p ≡ None → Tells nest p n false
@@ -368,3 +368,11 @@ other_form form.Block a b = refl
 other_form form.Loop a b = refl
 other_form form.If a b = refl
 other_form (form.Branch m) a b = absurd (b m refl)
+
+pub not_off : (b : Bool) → not b ≡ false → b ≡ true
+not_off true e = refl
+not_off false e = absurd (true≢false e)
+
+pub not_on : (b : Bool) → not b ≡ true → b ≡ false
+not_on true e = absurd (true≢false (sym e))
+not_on false e = refl

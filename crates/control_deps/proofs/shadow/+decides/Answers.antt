@@ -1,4 +1,4 @@
-use Rattle.std.proofs.Common.{◌≡◌, ◌<◌, ◌-◌, suc, length, slice_get, Some, arith}
+use Rattle.std.proofs.Common.{◌≡◌, ◌-◌, suc, arith}
 use Rattle.std.proofs.lemmas.Option.{slice_get-get_or}
 use Rattle.control_deps.proofs.ShadowLemmas.{block_within, around_within, body_decides, innermost, here_decides, last_decides, outer_decides}
 use Rattle.control_deps.proofs.shadow.+decides.Goals as goal
