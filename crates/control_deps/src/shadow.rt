@@ -115,7 +115,7 @@ fn shades(spots: &[Spot], branch: Pos, node: Node) -> bool
     }
     match spot.form {
         Form::If => is_of_if(spots, branch, spot.stop, node),
-        Form::Branch(label) => { decides(spots, branch.0 as usize + 1, spot.around, label, node) }
+        Form::Branch(label) => decides(spots, branch.0 as usize + 1, spot.around, label, node),
         _ => false,
     }
 }

@@ -27,6 +27,6 @@ decides-requires t c =
 pub returns : goal.returns
 returns t c =
     let nest = c.args.spots.now in
-    let at = slice_get-get_or nest c.in-Some.block.0 _ (block_within nest c.args.around c.in-Some.block c.in-Some.is c.requires.within) in
     let more : c.args.label ≡ suc (c.args.label - 1) = omega arith in
+    let at = slice_get-get_or nest c.in-Some.block.0 _ (block_within nest c.args.around c.in-Some.block c.in-Some.is c.requires.within) in
     λ ctx chain lt. outer_decides nest c.args.after c.in-Some.block _ ctx c.args.label (c.args.label - 1) c.args.node c.is_of_block.result c.decides.result (innermost nest c.args.around c.in-Some.block _ ctx c.in-Some.is at chain) c.if-is_of_block.false c.is_of_block.ensures more lt c.decides.ensures
