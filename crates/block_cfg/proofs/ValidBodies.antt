@@ -18,7 +18,7 @@ use Rattle.wasm_types.specs.Validity.{Passes, Leads, values_of, IsValidBody}
 use Rattle.wasm_types.specs.Spaces.{HasBody, body_of, import_count, func_types, imported, func_import, local_types, type_of_func, type_numbered}
 use Rattle.wasm_types.specs.Subset.{IsSealed, most_nesting}
 use Rattle.block_cfg.specs.Points.{HasPoints}
-use Rattle.block_cfg.specs.Walk.{LabelsBelow, LabelsExist}
+use Rattle.block_cfg.specs.Labels.{LabelsBelow, LabelsExist}
 
 -- ---- valid code branches to labels that exist
 

@@ -12,7 +12,8 @@ use Rattle.wasm_types.specs.Nodes.{At, Join}
 use Rattle.wasm_types.proofs.CodeLemmas.{onto-block, onto-loop, onto-if, onto-one}
 use Rattle.block_cfg.specs.Graph.{number, EachOnce}
 use Rattle.block_cfg.specs.declared.walk.Found.{Found}
-use Rattle.block_cfg.specs.Walk.{goes_of, goes_on, first_of, next_at, where_live, points_in, lists, SameOnce, Adds, Finds, LabelsBelow, LabelsExist, AreAround}
+use Rattle.block_cfg.specs.Labels.{LabelsBelow, LabelsExist}
+use Rattle.block_cfg.specs.Walk.{goes_of, goes_on, first_of, next_at, where_live, points_in, lists, SameOnce, Adds, Finds, AreAround}
 use Rattle.block_cfg.proofs.MemberLemmas.{zip_append, same_nil, same_one}
 
 -- ---- one instruction, and then the rest

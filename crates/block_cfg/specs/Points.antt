@@ -13,7 +13,7 @@ use Rattle.wasm_types.specs.Actions.{Callees}
 use Rattle.wasm_types.specs.Labels.{first}
 use Rattle.wasm_types.specs.Sites.{Site, Sites, IsSite, HasJoin, Leads, body_sites}
 use Rattle.block_cfg.specs.Graph.{Graph, row_of, EachOnce}
-use Rattle.block_cfg.specs.Walk.{LabelsExist}
+use Rattle.block_cfg.specs.Labels.{LabelsExist}
 
 -- A body of which the points are told: each label of a branch exists, and the body nests no deeper and has no more positions than that of a module that
 -- is answered.

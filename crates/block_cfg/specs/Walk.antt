@@ -87,21 +87,6 @@ pub record Finds (old new : Found) (here : List Node) (rows : List (List Node)) 
   pub points : new.points.items ≡ old.points.items ++ here
   pub next : Adds old.next.items new.next.items rows
 
--- an instruction that holds no others branches to labels that exist, of so many
-abbrev pub LabelsBelow : ℕ → Instr → Type 0
-LabelsBelow n (instr.Br l) = l < n
-LabelsBelow n (instr.BrIf l) = l < n
-LabelsBelow n (instr.BrTable some other) = All (λ l. l < n) some × (other < n)
-LabelsBelow n i = Unit {0}
-
--- each label of a branch exists, where so many are around
-abbrev pub LabelsExist : ℕ → Code → Type 0
-LabelsExist n done = Unit {0}
-LabelsExist n (one i rest) = LabelsBelow n i × LabelsExist n rest
-LabelsExist n (block kind inner rest) = LabelsExist (n + 1) inner × LabelsExist n rest
-LabelsExist n (repeat kind inner rest) = LabelsExist (n + 1) inner × LabelsExist n rest
-LabelsExist n (branch kind x y rest) = LabelsExist (n + 1) x × (LabelsExist (n + 1) y × LabelsExist n rest)
-
 -- Of the labels around, those that are seen are in the row, each once; and the others are not.
 pub record Marks (labels : List Node) (marks : List Bool) (row : List Node) : Type 0 where
   pub same : length marks ≡ length labels

@@ -3,7 +3,8 @@
 ghost use Rattle.std.specs.Prelude.{◌≡◌, ◌↔◌, ℕ, ◌<◌, ◌⊎◌, [], ◌∷◌, All, Contains, IfOk, length, map, reverse};
 ghost use Rattle.wasm_types.specs.declared.place.Node.{Node};
 ghost use Rattle.block_cfg.specs.Graph.{EachOnce};
-ghost use Rattle.block_cfg.specs.Walk.{LabelsBelow, Marks, SameOnce, goes_of, target_of};
+ghost use Rattle.block_cfg.specs.Labels.{LabelsBelow};
+ghost use Rattle.block_cfg.specs.Walk.{Marks, SameOnce, goes_of, target_of};
 
 use sqlite_items::Items;
 use std::alloc::Global;

@@ -4,7 +4,8 @@ ghost use Rattle.std.specs.Prelude.{◌≡◌, ◌+◌, ◌^◌, ◌<◌, ◌≤
 ghost use Rattle.wasm_types.specs.Code.{done, onto, code_of, count};
 ghost use Rattle.wasm_types.specs.Nodes.{At, Join};
 ghost use Rattle.block_cfg.specs.Graph.{EachOnce};
-ghost use Rattle.block_cfg.specs.Walk.{Adds, AreAround, Finds, LabelsBelow, LabelsExist, SameOnce, first_of, goes_of, goes_on, lists, next_at, points_in, where_live};
+ghost use Rattle.block_cfg.specs.Labels.{LabelsBelow, LabelsExist};
+ghost use Rattle.block_cfg.specs.Walk.{Adds, AreAround, Finds, SameOnce, first_of, goes_of, goes_on, lists, next_at, points_in, where_live};
 
 use crate::targets::{one, targets, two};
 use sqlite_items::Items;

@@ -14,7 +14,8 @@ use Rattle.wasm_types.specs.Nodes.{Join, named, made}
 use Rattle.wasm_types.specs.Labels.{arity, arities, outermost, Label, block_label, loop_label, body_label}
 use Rattle.wasm_types.specs.Sites.{Head, DoHead, BlockHead, LoopHead, IfHead, BrHead, BrIfHead, BrTableHead, ReturnHead, UnreachableHead, HasJoin, Branches, OneOf, Site, Sites, sites, body_sites}
 use Rattle.wasm_types.specs.Shadow.{Inside, at_position, at_join}
-use Rattle.block_cfg.specs.Walk.{goes_on, LabelsBelow, LabelsExist}
+use Rattle.block_cfg.specs.Labels.{LabelsBelow, LabelsExist}
+use Rattle.block_cfg.specs.Walk.{goes_on}
 use Rattle.block_cfg.proofs.SiteLemmas.{size_marked}
 use Rattle.control_deps.specs.declared.spot.Form.{Form}
 use Rattle.control_deps.specs.declared.spot.Form.TheVariants as form

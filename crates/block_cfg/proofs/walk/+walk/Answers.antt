@@ -8,7 +8,8 @@ use Rattle.wasm_types.specs.declared.place.Node.{Node}
 use Rattle.wasm_types.specs.Code.{done, onto, code_of, count, is_plain}
 use Rattle.wasm_types.specs.Nodes.{At, Join}
 use Rattle.wasm_types.proofs.CodeLemmas.{plain_is, count-next, code-next}
-use Rattle.block_cfg.specs.Walk.{Adds, AreAround, Finds, LabelsBelow, LabelsExist, SameOnce, first_of, goes_of, lists, next_at, points_in, where_live}
+use Rattle.block_cfg.specs.Labels.{LabelsBelow, LabelsExist}
+use Rattle.block_cfg.specs.Walk.{Adds, AreAround, Finds, SameOnce, first_of, goes_of, lists, next_at, points_in, where_live}
 use Rattle.block_cfg.proofs.WalkLemmas.{next_first, finds_none, adds_then, adds_moved, block_adds, instr_then, block_found, loop_found, if_found, plain_found, block_count, loop_count, if_count, plain_count, exist_onto, exist_block, exist_loop, exist_if, exist_plain, around_once, around_later, around_more, row_is, row_same}
 use Rattle.block_cfg.proofs.walk.+walk.Goals as goal
 

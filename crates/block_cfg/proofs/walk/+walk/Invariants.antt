@@ -1,7 +1,8 @@
 use Rattle.std.proofs.Common.{◌≡◌, ◌≤◌, ◌+◌, ◌*◌, drop, length, reverse}
 use Rattle.wasm_types.specs.Code.{done, onto, code_of, count}
 use Rattle.block_cfg.specs.declared.walk.Found.{Found}
-use Rattle.block_cfg.specs.Walk.{AreAround, Finds, LabelsExist, lists, points_in}
+use Rattle.block_cfg.specs.Labels.{LabelsExist}
+use Rattle.block_cfg.specs.Walk.{AreAround, Finds, lists, points_in}
 use Rattle.block_cfg.proofs.walk.+walk.Given as goal
 
 abbrev pub decreases-walk_instr : goal.decreases-walk_instr
