@@ -1,0 +1,5 @@
+pub mod Graph
+pub mod Labels
+pub mod Walk
+pub mod Points
+pub mod Law

@@ -1,0 +1,5 @@
+pub mod SpotLemmas
+pub mod FitLemmas
+pub mod ShadowLemmas
+pub mod AroundLemmas
+pub mod DeciderLemmas

@@ -1,0 +1,4 @@
+pub mod Spots
+pub mod Nest
+pub mod Chain
+pub mod Deciders
