@@ -97,3 +97,10 @@ among_distinct x (n ∷ ns) = cases (is_among n ns) refl (among_distinct x ns)
 
 pub added_distinct : (x : Node) (ns found new : List Node) → reverse found ≡ distinct ns → reverse new ≡ added x (reverse found) → reverse new ≡ distinct (x ∷ ns)
 added_distinct x ns found new e f = f ∙ ap (added x) e ∙ ap (λ b. if b then distinct ns else x ∷ distinct ns) (among_distinct x ns)
+
+-- one label more, from the back
+pub next_distinct : (J : ℕ → Node) (ls : List ℕ) (other k left : ℕ) (x : Node) (found new : List Node) → k < length ls → k + 1 ≡ left → x ≡ J (get_or ls k 0)
+    → reverse found ≡ distinct (map J (drop left ls ++ other ∷ [])) → reverse new ≡ added x (reverse found) → reverse new ≡ distinct (map J (drop k ls ++ other ∷ []))
+next_distinct J ls other k left x found new lt at is e f =
+    added_distinct x (map J (drop left ls ++ other ∷ [])) found new e f
+    ∙ ap distinct (ap₂ {A = Node} {B = ℕ} (λ y n. y ∷ map J (drop n ls ++ other ∷ [])) is (sym at) ∙ ap (λ z. map J (z ++ other ∷ [])) (sym (drop_more ls k 0 lt)))

@@ -1,6 +1,9 @@
 pub mod SpanLemmas
 pub mod SkipLemmas
+pub mod FoundLemmas
 pub mod PlaceLemmas
 pub mod GroupLemmas
 pub mod DistinctLemmas
 pub mod EffectLemmas
+pub mod WalkLaw
+pub mod WalkSteps

@@ -7,10 +7,12 @@ mod groups;
 mod labels;
 mod lists;
 mod place;
+mod plain;
 mod push;
 mod scope;
 mod stack;
 mod trail;
+mod walk;
 
 pub use place::Place;
 pub use wasm_types::{Node, Point, Taker};

@@ -71,7 +71,8 @@ impl Trail {
     pub(crate) fn open(&mut self) -> Result<(), NoMemory>
         ensures { IfOk result (λ _. found self.new ≡ followed (found self.old) opening) }
     {
-        self.lists.add(&[], 0)
+        self.lists.add(&[], 0)?;
+        Ok(())
     }
 
     /// A position more, which takes the last so many places of the stack.
@@ -82,7 +83,8 @@ impl Trail {
         let pos = self.here();
         let taken = top(stack, count);
         self.lists.add(taken, 0)?;
-        self.note(taken, Taker::Instr(pos))
+        self.note(taken, Taker::Instr(pos))?;
+        Ok(())
     }
 
     /// A position more, which takes the last so many places of the stack, and leaves all.
@@ -92,7 +94,8 @@ impl Trail {
     {
         let pos = self.here();
         self.lists.add(stack, stack.len().saturating_sub(count))?;
-        self.note(top(stack, count), Taker::Instr(pos))
+        self.note(top(stack, count), Taker::Instr(pos))?;
+        Ok(())
     }
 
     /// The end of a sequence, with these places on its stack.
@@ -100,6 +103,7 @@ impl Trail {
         ensures { IfOk result (λ _. found self.new ≡ followed (found self.old) (ending node stack.now)) }
     {
         self.note(stack, Taker::End(node))?;
-        self.join(node, stack)
+        self.join(node, stack)?;
+        Ok(())
     }
 }
