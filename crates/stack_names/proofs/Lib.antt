@@ -7,3 +7,5 @@ pub mod DistinctLemmas
 pub mod EffectLemmas
 pub mod WalkLaw
 pub mod WalkSteps
+pub mod PlaceTypes
+pub mod NameLemmas

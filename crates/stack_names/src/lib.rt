@@ -6,13 +6,17 @@ mod effect;
 mod groups;
 mod labels;
 mod lists;
+mod naming;
 mod place;
 mod plain;
 mod push;
+mod readers;
 mod scope;
 mod stack;
 mod trail;
 mod walk;
 
+pub use naming::names;
 pub use place::Place;
+pub use readers::Names;
 pub use wasm_types::{Node, Point, Taker};
