@@ -1,7 +1,7 @@
 -- Nodes of which each stands once, against the numbers that are kept of them.
-use Rattle.std.proofs.Common.{◌≡◌, ◌≢◌, ◌⊎◌, inl, inr, ℕ, zero, suc, ◌+◌, ◌<◌, List, [], ◌∷◌, ◌++◌, map, reverse, drop, length, Bool, true, false, not, ◌||◌, get_or, refl, sym, ap, ap₂, ◌∙◌, subst, arith, if◌then◌else◌, nat_eq, eq-eqb, eqb-true}
+use Rattle.std.proofs.Common.{◌≡◌, ◌⊎◌, inl, inr, ℕ, ◌+◌, ◌<◌, List, [], ◌∷◌, ◌++◌, map, reverse, drop, length, Bool, true, false, not, ◌||◌, get_or, refl, sym, ap, ap₂, ◌∙◌, if◌then◌else◌, nat_eq, eq-eqb, eqb-true}
 use Rattle.std.specs.List.{list_any}
-use Rattle.std.proofs.lemmas.List.{reverse-append, drop_more, append-nil}
+use Rattle.std.proofs.lemmas.List.{reverse-append, drop_more}
 use Rattle.wasm_types.specs.declared.place.Node.{Node}
 use Rattle.wasm_types.specs.declared.place.Node.TheVariants as node
 use Rattle.wasm_types.specs.Takers.{node_eq, is_among, distinct}

@@ -1,5 +1,5 @@
 -- What calls leave.
-use Rattle.std.proofs.Common.{◌≡◌, ℕ, List, [], ◌∷◌, length, Option, Some, None, refl, sym, subst}
+use Rattle.std.proofs.Common.{◌≡◌, ℕ, List, [], ◌∷◌, length, Option, Some, refl, sym, subst}
 use Rattle.std.specs.List.{slice_get}
 use Rattle.wasm_types.specs.declared.module.ValType.{ValType}
 use Rattle.wasm_types.specs.declared.module.FuncType.{FuncType}

@@ -1,13 +1,11 @@
 -- The places of every code have types, by what its instructions leave.
-use Rattle.std.proofs.Common.{◌≡◌, ℕ, zero, suc, ◌+◌, ◌-◌, ◌≤◌, ◌<◌, List, [], ◌∷◌, ◌++◌, map, reverse, Bool, false, Option, Some, None, take, drop, length, replicate, nat_eq, refl, sym, ap, ap₂, ◌∙◌, subst, arith, if◌then◌else◌, eq-eqb, length-append}
+use Rattle.std.proofs.Common.{◌≡◌, ℕ, zero, suc, ◌+◌, ◌-◌, ◌≤◌, ◌<◌, List, [], ◌∷◌, ◌++◌, map, reverse, false, Option, Some, None, take, drop, length, replicate, nat_eq, refl, sym, ap, ap₂, ◌∙◌, subst, arith, if◌then◌else◌, eq-eqb, length-append}
 use Rattle.std.specs.List.{slice_get}
 use Rattle.std.proofs.lemmas.List.{reverse-reverse, append_assoc}
 use Rattle.wasm_types.specs.declared.ops.NumOp.{NumOp}
 use Rattle.wasm_types.specs.declared.ops.NumOp.TheVariants as num
 use Rattle.wasm_types.specs.declared.module.ValType.{ValType}
-use Rattle.wasm_types.specs.declared.module.ValType.TheVariants.{I32, I64}
-use Rattle.wasm_types.specs.declared.module.FuncType.{FuncType}
-use Rattle.wasm_types.specs.declared.module.GlobalType.{GlobalType}
+use Rattle.wasm_types.specs.declared.module.ValType.TheVariants.{I32}
 use Rattle.wasm_types.specs.declared.module.Module.{Module}
 use Rattle.wasm_types.specs.declared.instr.Instr.{Instr}
 use Rattle.wasm_types.specs.declared.instr.Instr as instr
@@ -15,8 +13,7 @@ use Rattle.wasm_types.specs.declared.place.Node.{Node}
 use Rattle.wasm_types.specs.declared.place.Node.TheVariants as node
 use Rattle.wasm_types.specs.declared.place.Node.TheVariants.{Exit}
 use Rattle.wasm_types.specs.Marked.{Marked, End, Do, Block, Loop, If, Br, BrIf, BrTable, Return, Unreachable, size}
-use Rattle.wasm_types.specs.Spaces.{type_of_func, globals_of}
-use Rattle.wasm_types.specs.Typing.{Context, Types, TypesNum, type_of_width, low_type, load_type}
+use Rattle.wasm_types.specs.Typing.{Context, Types, TypesNum}
 use Rattle.wasm_types.specs.Actions.{Callees, callees, takes, leaves}
 use Rattle.wasm_types.specs.Nodes.{At, Join, named, made}
 use Rattle.wasm_types.specs.Labels.{arity, Label, block_label, loop_label, body_label}

@@ -1,12 +1,12 @@
 -- Places of positions as ranges of one list that grows at its end.
-use Rattle.std.proofs.Common.{◌≡◌, ℕ, zero, suc, ◌+◌, ◌-◌, ◌≤◌, List, [], ◌∷◌, ◌++◌, Bool, Option, Some, None, length, take, drop, refl, sym, ap, ap₂, ◌∙◌, subst, arith, is_some, length-append}
+use Rattle.std.proofs.Common.{◌≡◌, ℕ, zero, suc, ◌+◌, ◌-◌, ◌≤◌, List, [], ◌∷◌, ◌++◌, Option, Some, None, length, take, drop, refl, ap, ap₂, ◌∙◌, subst, arith, is_some}
 use Rattle.std.specs.List.{slice_get, slice_range}
-use Rattle.std.proofs.lemmas.List.{take-append-le, drop-append-le, drop_at, take_at, take_all, append-nil, append_assoc}
+use Rattle.std.proofs.lemmas.List.{take-append-le, drop-append-le, take_all}
 use Rattle.std.proofs.Math.ListN.{length-drop}
 use Rattle.stack_names.specs.declared.place.Place.{Place}
 use Rattle.stack_names.specs.declared.lists.Span.{Span}
 use Rattle.stack_names.specs.Listed.{Listed}
-use Rattle.stack_names.specs.Named.{is_listed, operands_of, stack_of, is_live_in, operands_in, stack_in}
+use Rattle.stack_names.specs.Named.{is_live_in, operands_in, stack_in}
 use Rattle.stack_names.specs.Spans.{list_of_span, lists_of, IsWithin, AreWithin, span_of}
 
 pub length-lists : (places : List Place) (spans : List (Option Span)) → length (lists_of places spans) ≡ length spans

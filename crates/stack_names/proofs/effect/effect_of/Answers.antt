@@ -1,4 +1,4 @@
-use Rattle.std.proofs.Common.{◌≡◌, ◌≤◌, ◌∙◌, length, refl, sym, arith}
+use Rattle.std.proofs.Common.{◌≤◌, ◌∙◌, length, refl, sym, arith}
 use Rattle.wasm_types.specs.declared.place.LimitKind.TheVariants as limit
 use Rattle.stack_names.proofs.EffectLemmas.{call_leaves, indirect_leaves}
 use Rattle.stack_names.proofs.effect.effect_of.Goals as goal

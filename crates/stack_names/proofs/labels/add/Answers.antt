@@ -1,4 +1,4 @@
-use Rattle.std.proofs.Common.{◌≡◌, ◌∙◌, ℕ, List, Bool, ap₂, not, nat_eq, map}
+use Rattle.std.proofs.Common.{◌≡◌, ◌∙◌, ℕ, List, ap₂, not, nat_eq, map}
 use Rattle.std.specs.List.{list_any}
 use Rattle.stack_names.specs.Named.{number_of}
 use Rattle.stack_names.proofs.DistinctLemmas.{put, kept}

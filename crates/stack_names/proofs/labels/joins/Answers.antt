@@ -1,8 +1,7 @@
-use Rattle.std.proofs.Common.{◌≡◌, ◌-◌, ◌+◌, ◌<◌, ◌≤◌, ◌∙◌, length, ap, reverse, arith}
+use Rattle.std.proofs.Common.{◌≡◌, ◌-◌, ◌+◌, ◌<◌, ◌≤◌, length, ap, reverse, arith}
 use Rattle.stack_names.specs.declared.place.Target.{Target}
 use Rattle.stack_names.specs.Found.{join_at}
 use Rattle.stack_names.proofs.DistinctLemmas.{next_distinct}
-use Rattle.stack_names.proofs.WalkLaw.{size_marked}
 use Rattle.stack_names.proofs.labels.joins.Goals as goal
 
 pub loop-left-preserved : goal.loop-left-preserved

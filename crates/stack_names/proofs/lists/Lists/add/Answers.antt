@@ -1,7 +1,6 @@
-use Rattle.std.proofs.Common.{◌≡◌, ◌+◌, ◌≤◌, ◌++◌, ◌∷◌, [], ◌∙◌, sym, ap, ap₂, subst, length, drop, Some, arith, List, Option, length-append}
+use Rattle.std.proofs.Common.{◌≡◌, ◌+◌, ◌++◌, ◌∷◌, [], ◌∙◌, sym, ap, ap₂, subst, length, drop, Some, arith, List, Option, length-append}
 use Rattle.stack_names.specs.declared.place.Place.{Place}
 use Rattle.stack_names.specs.declared.lists.Span.{Span}
-use Rattle.stack_names.specs.Listed.{Listed}
 use Rattle.stack_names.specs.Spans.{lists_of, AreWithin}
 use Rattle.stack_names.proofs.SpanLemmas.{within-push, are_within_le, pushed}
 use Rattle.stack_names.proofs.lists.Lists.add.Goals as goal

@@ -1,4 +1,4 @@
-use Rattle.std.proofs.Common.{◌≡◌, ◌++◌, ◌∷◌, [], ◌∙◌, sym, ap, subst, length, None}
+use Rattle.std.proofs.Common.{◌++◌, ◌∷◌, [], ◌∙◌, sym, ap, subst, length, None}
 use Rattle.stack_names.specs.Spans.{lists_of, AreWithin}
 use Rattle.stack_names.proofs.SpanLemmas.{lists-append, within-push}
 use Rattle.stack_names.proofs.lists.Lists.add_dead.Goals as goal

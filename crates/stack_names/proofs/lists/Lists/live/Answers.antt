@@ -1,4 +1,4 @@
-use Rattle.std.proofs.Common.{◌≡◌, ◌∙◌, ap, subst}
+use Rattle.std.proofs.Common.{◌≡◌, ◌∙◌, ap}
 use Rattle.std.specs.List.{slice_get}
 use Rattle.stack_names.specs.Named.{is_live_in}
 use Rattle.stack_names.specs.Spans.{span_of}

@@ -1,4 +1,4 @@
-use Rattle.std.proofs.Common.{◌≡◌, ◌≤◌, ◌∙◌, sym, ap, subst, length, arith, Some, None}
+use Rattle.std.proofs.Common.{◌≡◌, ◌∙◌, sym, ap, length, arith, Some, None}
 use Rattle.std.specs.List.{slice_get, slice_range}
 use Rattle.stack_names.specs.Named.{operands_in}
 use Rattle.stack_names.specs.Spans.{span_of}

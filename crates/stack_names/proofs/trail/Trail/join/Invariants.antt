@@ -1,5 +1,5 @@
 use Rattle.std.proofs.Common.{◌≡◌, ◌≤◌, ◌++◌, drop, length}
-use Rattle.stack_names.specs.Found.{taken_by, joins_at}
+use Rattle.stack_names.specs.Found.{joins_at}
 use Rattle.stack_names.proofs.trail.Trail.join.Given as goal
 
 abbrev pub invariant-loop-left : goal.invariant-loop-left
