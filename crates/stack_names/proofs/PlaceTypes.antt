@@ -183,9 +183,6 @@ types_exist m ls code = let T = types_from m ls code 0 [] (λ n. I32) in (T, typ
 
 -- ---- these types are those of validity
 
-top_is : (k : ValType) (l : List ValType) (x : ValType) (ls : List ValType) → k ∷ [] ≡ l → l ≡ x ∷ ls → x ≡ k
-top_is k l x ls e f = let g : k ∷ [] ≡ x ∷ ls = e ∙ f in cc
-
 none_left : {A : Type 0} (k : ValType) → k ∷ [] ≡ [] → A
 none_left k e = absurd cc
 
@@ -213,7 +210,7 @@ second_is : (T : Node → ValType) (a b : Node) (names : List Node) → kind_or 
 second_is T a b names =
     let xs = placed T names in
     let whole : placed T (a ∷ b ∷ names) ≡ xs ++ place_of T b ∷ (place_of T a ∷ []) =
-        sym (one_placed T a (b ∷ names)) ∙ ap (λ z. z ++ place_of T a ∷ []) (sym (one_placed T b names)) ∙ append_assoc xs (place_of T b ∷ []) (place_of T a ∷ []) in
+    sym (one_placed T a (b ∷ names)) ∙ ap (λ z. z ++ place_of T a ∷ []) (sym (one_placed T b names)) ∙ append_assoc xs (place_of T b ∷ []) (place_of T a ∷ []) in
     let long : length (placed T (a ∷ b ∷ names)) - 2 ≡ length xs = omega (arith, ap length whole, length-append xs (place_of T b ∷ (place_of T a ∷ []))) in
     ap kind_or (ap₂ {A = List Place} {B = ℕ} (λ z n. slice_get z n) whole long ∙ behind xs (place_of T a ∷ []) (place_of T b))
 

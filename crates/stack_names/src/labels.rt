@@ -8,10 +8,10 @@ ghost use Rattle.stack_names.specs.Distinct.{added};
 
 use crate::groups::number;
 use crate::place::Target;
-use indexmap::IndexSet;
 use crate::push::push;
+use indexmap::IndexSet;
 use std::alloc::Global;
-use wasm_types::{Node, NoMemory};
+use wasm_types::{NoMemory, Node};
 
 /// The target of a label, of which the innermost is the last: the end of the body where there is no such label.
 pub(crate) fn target(labels: &[Target], label: u32) -> Target

@@ -5,7 +5,7 @@ ghost use Rattle.stack_names.specs.Found.{below, grown, top_places};
 
 use crate::place::Place;
 use crate::push::push;
-use wasm_types::{Node, NoMemory, ValType};
+use wasm_types::{NoMemory, Node, ValType};
 
 /// The last so many places of a stack, all where there are fewer.
 pub(crate) fn top(stack: &[Place], count: usize) -> &[Place]

@@ -7,7 +7,7 @@ use crate::place::Place;
 use crate::push::push;
 use crate::stack::top;
 use std::alloc::Global;
-use wasm_types::{Node, NoMemory, Pos, Taker};
+use wasm_types::{NoMemory, Node, Pos, Taker};
 
 /// What has been found so far: the places of each position, what takes each value, and the values that come together, in reading order.
 #[derive(Drop)]
@@ -18,7 +18,7 @@ pub(crate) struct Trail {
 }
 
 impl Trail {
-    ghost use Rattle.stack_names.specs.Found.{ending, found, followed, joins_at, leaving, nothing, opening, taken_by, taking};
+    ghost use Rattle.stack_names.specs.Found.{Adds, ending, found, joins_at, leaving, nothing, opening, taken_by, taking};
 
     /// Nothing yet.
     pub(crate) fn new(alloc: Global) -> Trail
@@ -69,7 +69,7 @@ impl Trail {
 
     /// A position more, which takes nothing.
     pub(crate) fn open(&mut self) -> Result<(), NoMemory>
-        ensures { IfOk result (λ _. found self.new ≡ followed (found self.old) opening) }
+        ensures { IfOk result (λ _. Adds self.old opening self.new) }
     {
         self.lists.add(&[], 0)?;
         Ok(())
@@ -78,7 +78,7 @@ impl Trail {
     /// A position more, which takes the last so many places of the stack.
     pub(crate) fn take(&mut self, stack: &[Place], count: usize) -> Result<(), NoMemory>
         requires { length self.old.lists < 2 ^ 32 }
-        ensures { IfOk result (λ _. found self.new ≡ followed (found self.old) (taking (length self.old.lists) count stack.now [])) }
+        ensures { IfOk result (λ _. Adds self.old (taking (length self.old.lists) count stack.now []) self.new) }
     {
         let pos = self.here();
         let taken = top(stack, count);
@@ -90,7 +90,7 @@ impl Trail {
     /// A position more, which takes the last so many places of the stack, and leaves all.
     pub(crate) fn leave(&mut self, stack: &[Place], count: usize) -> Result<(), NoMemory>
         requires { length self.old.lists < 2 ^ 32 }
-        ensures { IfOk result (λ _. found self.new ≡ followed (found self.old) (leaving (length self.old.lists) count stack.now [])) }
+        ensures { IfOk result (λ _. Adds self.old (leaving (length self.old.lists) count stack.now []) self.new) }
     {
         let pos = self.here();
         self.lists.add(stack, stack.len().saturating_sub(count))?;
@@ -100,7 +100,7 @@ impl Trail {
 
     /// The end of a sequence, with these places on its stack.
     pub(crate) fn end(&mut self, node: Node, stack: &[Place]) -> Result<(), NoMemory>
-        ensures { IfOk result (λ _. found self.new ≡ followed (found self.old) (ending node stack.now)) }
+        ensures { IfOk result (λ _. Adds self.old (ending node stack.now) self.new) }
     {
         self.note(stack, Taker::End(node))?;
         self.join(node, stack)?;

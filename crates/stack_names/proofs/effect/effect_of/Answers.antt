@@ -6,7 +6,7 @@ use Rattle.stack_names.proofs.effect.effect_of.Goals as goal
 pub overflow_add-takes : goal.overflow_add-takes
 overflow_add-takes c =
     let few : length c.in-Some-get.kind.now.params ≤ 64 =
-        c.args.scope.now.limits limit.Params c.in-CallIndirect.kind (length c.in-Some-get.kind.now.params) (c.in-Some-get.kind.now, sym c.in-Some-get.ensures.value, refl) in
+    c.args.scope.now.limits limit.Params c.in-CallIndirect.kind (length c.in-Some-get.kind.now.params) (c.in-Some-get.kind.now, sym c.in-Some-get.ensures.value, refl) in
     omega arith
 
 pub returns-in-Some-clause-leaves : goal.returns-in-Some-clause-leaves

@@ -8,14 +8,14 @@ use Rattle.stack_names.proofs.lists.Lists.add.Goals as goal
 pub invariant_of-self-in_err-push : goal.invariant_of-self-in_err-push
 invariant_of-self-in_err-push c =
     let long : length c.extend_from_slice.new.self.items ≡ length c.self.inside.places.items + length c.args.stack.now =
-        ap length c.in_ok-extend_from_slice.ensures.items ∙ length-append c.self.inside.places.items c.args.stack.now in
+    ap length c.in_ok-extend_from_slice.ensures.items ∙ length-append c.self.inside.places.items c.args.stack.now in
     subst (AreWithin (length c.extend_from_slice.new.self.items)) (sym c.in_err-push.ensures.err)
     (are_within_le (length c.self.inside.places.items) (length c.extend_from_slice.new.self.items) c.self.inside.spans.items (omega arith) c.self.invariant)
 
 pub invariant_of-self-2 : goal.invariant_of-self-2
 invariant_of-self-2 c =
     let long : length c.extend_from_slice.new.self.items ≡ length c.self.inside.places.items + length c.args.stack.now =
-        ap length c.in_ok-extend_from_slice.ensures.items ∙ length-append c.self.inside.places.items c.args.stack.now in
+    ap length c.in_ok-extend_from_slice.ensures.items ∙ length-append c.self.inside.places.items c.args.stack.now in
     let begin : length c.as_slice-start.result.now ≡ length c.self.inside.places.items = ap length c.as_slice-start.ensures.value in
     let end : length c.as_slice-end.result.now ≡ length c.extend_from_slice.new.self.items = ap length c.as_slice-end.ensures.value in
     let n = length c.extend_from_slice.new.self.items in
@@ -25,7 +25,7 @@ invariant_of-self-2 c =
 pub returns : goal.returns
 returns c =
     let long : length c.extend_from_slice.new.self.items ≡ length c.self.inside.places.items + length c.args.stack.now =
-        ap length c.in_ok-extend_from_slice.ensures.items ∙ length-append c.self.inside.places.items c.args.stack.now in
+    ap length c.in_ok-extend_from_slice.ensures.items ∙ length-append c.self.inside.places.items c.args.stack.now in
     let begin : length c.as_slice-start.result.now ≡ length c.self.inside.places.items = ap length c.as_slice-start.ensures.value in
     let end : length c.as_slice-end.result.now ≡ length c.extend_from_slice.new.self.items = ap length c.as_slice-end.ensures.value in
     ap₂ {A = List Place} {B = List (Option Span)} (λ p s. lists_of p s) c.in_ok-extend_from_slice.ensures.items c.in_ok-push.ensures.ok
