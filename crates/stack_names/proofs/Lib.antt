@@ -1,0 +1,11 @@
+pub mod SpanLemmas
+pub mod SkipLemmas
+pub mod FoundLemmas
+pub mod PlaceLemmas
+pub mod GroupLemmas
+pub mod DistinctLemmas
+pub mod EffectLemmas
+pub mod WalkLaw
+pub mod WalkSteps
+pub mod PlaceTypes
+pub mod NameLemmas

@@ -1,0 +1,6 @@
+pub mod Listed
+pub mod Spans
+pub mod Named
+pub mod Left
+pub mod Found
+pub mod Distinct
