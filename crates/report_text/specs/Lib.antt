@@ -1,1 +1,5 @@
 pub mod Texts
+pub mod RunTexts
+pub mod InstructionTexts
+pub mod Listing
+pub mod ListingOf

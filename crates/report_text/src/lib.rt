@@ -1,8 +1,13 @@
 //! The texts that the program prints, each worded here alone (docs/COMMANDS.md).
 #![tactic(auto)]
 
+mod instruction;
+mod listing;
 mod refusal;
+mod run;
 mod text;
 
+pub use listing::list_text;
 pub use refusal::{ModuleRefusal, QueryRefusal, Refusal};
+pub use run::{Outcome, run_text};
 pub use text::{refusal_text, slice_text, valid_text};

@@ -61,6 +61,8 @@ pub enum QueryRefusal {
     Unbuilt,
     /// The module has no function of this number.
     NoFunction { func: u32 },
+    /// The function is imported: it has no body.
+    Imported { func: u32 },
     /// The function has only `count` instructions.
     NoInstruction { at: u32, count: u32 },
     /// An export of the module has the name already.

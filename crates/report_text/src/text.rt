@@ -80,6 +80,7 @@ fn query_end(alloc: Global, cause: QueryRefusal) -> Result<String, AllocError>
     match cause {
         QueryRefusal::Unbuilt => format!(in alloc; "not built yet\n"),
         QueryRefusal::NoFunction { func } => format!(in alloc; "no function {func}\n"),
+        QueryRefusal::Imported { func } => format!(in alloc; "function {func} is imported\n"),
         QueryRefusal::NoInstruction { at, count } => {
             format!(in alloc; "no instruction {at}, function has {count}\n")
         }
