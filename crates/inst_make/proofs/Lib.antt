@@ -1,1 +1,4 @@
 pub mod Standing
+mod Writes
+mod Spaces
+mod Begun

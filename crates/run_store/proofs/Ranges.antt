@@ -87,10 +87,6 @@ still_paged p n at xs rest these h same le fit long =
       bytes = All-same IsByte _ _ e (written_fit at these p.bytes le fit h.bytes);
     }
 
--- what a vector holds once a borrow of all of it is over
-pub whole_written : (n at : ℕ) (xs rest bytes these : List ℕ) → xs ≡ written at these bytes → at + length these ≤ length bytes → n ≡ length bytes → take n (xs ++ rest) ≡ written at these bytes
-whole_written n at xs rest bytes these same le long = take_at xs rest n (ap length same ∙ (written_long at these bytes le ∙ sym long)) ∙ same
-
 -- ---- numbers as std has them
 
 take_bytes_of : (j k n : ℕ) → j ≤ k → take j (bytes_of k n) ≡ bytes_of j n

@@ -52,6 +52,14 @@ pub(crate) fn store_number(bytes: &mut [u8], at: usize, width: u32, number: u64)
     }
 }
 
+/// Writes these bytes from an address on.
+pub(crate) fn put_bytes(bytes: &mut [u8], at: usize, these: &[u8])
+    requires { at + length these.now ≤ length bytes.old }
+    ensures { bytes.new ≡ written at these.now bytes.old }
+{
+    bytes[at..at + these.len()].copy_from_slice(these);
+}
+
 /// Copies a range of bytes to an address, as if by way of a copy elsewhere.
 pub(crate) fn copy_range(bytes: &mut [u8], to: usize, from: usize, count: usize)
     requires from { from + count ≤ length bytes.old }

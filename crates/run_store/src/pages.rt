@@ -2,7 +2,7 @@
 
 ghost use Rattle.std.specs.Prelude.{◌≡◌, ◌+◌, ◌^◌, ◌<◌, ◌≤◌, IfOk, OnErr, Some, None, if◌then◌else◌, length, replicate, is_some};
 
-use crate::bytes::{copy_range, fill_range, load_number, store_number};
+use crate::bytes::{copy_range, fill_range, load_number, put_bytes, store_number};
 use std::alloc::Global;
 use std::marker::Model;
 use wasm_types::{MOST_PAGES, NoMemory};
@@ -82,6 +82,19 @@ impl PageStore {
             return None;
         }
         store_number(self.bytes.as_mut_slice(), at as usize, width, number);
+        Some(())
+    }
+
+    /// Writes these bytes from an address on: none exactly where they don't all lie within, and then nothing changes.
+    pub fn write(&mut self, at: u64, these: &[u8]) -> Option<()>
+        requires { at < 2 ^ 33 }
+        ensures answer { is_some result ≡ is_within at (length these.now) (length self.old.bytes) }
+        ensures after { self.new ≡ after_write self.old at these.now }
+    {
+        if at + these.len() as u64 > self.bytes.len() as u64 {
+            return None;
+        }
+        put_bytes(self.bytes.as_mut_slice(), at as usize, these);
         Some(())
     }
 
