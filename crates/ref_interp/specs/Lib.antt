@@ -1,3 +1,4 @@
 pub mod World
 pub mod Machine
+pub mod Config
 pub mod Follows

@@ -1,6 +1,9 @@
 //! The interpreter: invocations of a module's functions, exactly by the meaning.
 #![tactic(auto)]
 
+mod callees;
 mod host;
+mod machine;
 mod memory;
 mod numbers;
+mod step;
