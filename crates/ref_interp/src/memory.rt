@@ -57,6 +57,8 @@ pub(crate) fn load(store: &PageStore, op: LoadOp, at: u64) -> Option<u64>
     requires { at < 2 ^ 33 }
     ensures { result ≡ loaded op at store.now.bytes }
 {
+    // What the store holds are bytes: its pages tell that of them.
+    let _pages = store.pages();
     match store.load(at, load_bytes(op)) {
         Some(number) => Some(widen(op, number)),
         None => None,
