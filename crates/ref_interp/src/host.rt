@@ -52,7 +52,8 @@ fn write_bytes(store: &mut PageStore, writes: &[(u32, Items<u8>)])
 pub(crate) fn call_host(m: &ValidModule, inst: &mut Instance, func: u32) -> Result<Option<u64>, Reason>
     requires import { func < import_count m.now }
     requires globals { HaveTypes inst.old.globals.items (map global_type (globals_of m.now)) }
-    ensures { (H : HostFunc) → host_of m.now func ≡ Some H → AnswersAs result (world_of inst.new) (host_call H (world_of inst.old)) }
+    ensures answer { (H : HostFunc) → host_of m.now func ≡ Some H → AnswersAs result (world_of inst.new) (host_call H (world_of inst.old)) }
+    ensures table { inst.new.entries.items ≡ inst.old.entries.items }
 {
     let Some(reply) = inst.script.next() else {
         return Err(Reason::ReplyMissing);

@@ -6,4 +6,5 @@ mod host;
 mod machine;
 mod memory;
 mod numbers;
+mod run;
 mod step;

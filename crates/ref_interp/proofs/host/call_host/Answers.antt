@@ -30,8 +30,8 @@ write_bytes-requires c =
     subst (λ ws. list_all (bytes_fit true (length c.args.inst.now.store.bytes)) ws ≡ true) (sym c.as_slice-3.ensures)
     (fit_bytes c.args.m.now c.args.func c.in-Some.reply.now c.args.inst.now.store.pages (length c.args.inst.now.store.bytes) fits c.pages.ensures.paged.long)
 
-pub returns : goal.returns
-returns c = λ H is.
+pub returns-clause-answer : goal.returns-clause-answer
+returns-clause-answer c = λ H is.
     let m = c.args.m.now in
     let r = c.in-Some.reply.now in
     let w : World = world_of c.args.inst.now in
