@@ -1,4 +1,4 @@
 pub mod Standing
 mod Writes
-mod Spaces
+mod FirstLimits
 mod Begun

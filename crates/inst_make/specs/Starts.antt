@@ -11,8 +11,8 @@ use Rattle.wasm_meaning.specs.State.{State, HostCall, Script}
 use Rattle.typed_runs.specs.Start.{constant, least, begins, bare, started, ElemFits, SegmentFits, CanStart}
 use Rattle.run_store.specs.Scripts.{Replies}
 use Rattle.inst_make.specs.declared.instance.Instance.{Instance}
-use Rattle.inst_make.specs.declared.instantiate.InstEnd.{InstEnd}
-use Rattle.inst_make.specs.declared.instantiate.InstEnd.TheVariants.{TooManyPages, ElemOut, DataOut, Memory}
+use Rattle.inst_make.specs.declared.start.InstEnd.{InstEnd}
+use Rattle.inst_make.specs.declared.start.InstEnd.TheVariants.{TooManyPages, ElemOut, DataOut, Memory}
 use Rattle.inst_make.specs.Instances.{StandsFor, IsInstance}
 
 -- entry k of a list is the first of which a property doesn't hold

@@ -5,8 +5,8 @@ ghost use Rattle.typed_runs.specs.Start.{begins, constant};
 ghost use Rattle.wasm_types.specs.Hosts.{is_within};
 ghost use Rattle.inst_make.specs.Starts.{with_own};
 
-use std::alloc::Global;
-use wasm_types::{GlobalDef, Instr, NoMemory, Value};
+use std::alloc::{AllocError, Global};
+use wasm_types::{GlobalDef, Instr, Value};
 
 /// The value of a constant expression, of the globals' values.
 fn value_of(globals: &[Value], code: &[Instr]) -> Value
@@ -48,7 +48,7 @@ pub(crate) fn all_globals(
     alloc: Global,
     imported: &[Value],
     own: &[GlobalDef],
-) -> Result<Vec<Value>, NoMemory>
+) -> Result<Vec<Value>, AllocError>
     ensures { IfOk result (λ globals. globals.items ≡ with_own imported.now own.now) }
 {
     let mut globals = Vec::from_slice(alloc, imported)?;

@@ -1,12 +1,12 @@
 //! Element segments.
 
-ghost use Rattle.std.specs.Prelude.{◌≡◌, ℕ, ◌+◌, ◌^◌, ◌<◌, ◌≤◌, length, All};
-ghost use Rattle.typed_runs.specs.Start.{named, table_after};
+ghost use Rattle.std.specs.Prelude.{◌≡◌, ℕ, ◌+◌, ◌^◌, ◌<◌, ◌≤◌, length, replicate, All, IfOk, None};
+ghost use Rattle.typed_runs.specs.Start.{begins, named, table_after};
 ghost use Rattle.wasm_types.specs.Hosts.{is_within};
-ghost use Rattle.typed_runs.specs.Start.{begins};
 ghost use Rattle.inst_make.specs.Starts.{ElemWithin, FindsFirst};
 
 use crate::constants::{lies_within, offset_of};
+use std::alloc::{AllocError, Global};
 use wasm_types::{Elem, Value};
 
 /// Whether a segment lies within a table of so many entries.
@@ -31,6 +31,13 @@ pub(crate) fn first_elem_out(elems: &[Elem], globals: &[Value], entries: u32) ->
         }
     }
     None
+}
+
+/// A table of so many empty entries.
+pub(crate) fn empty_table(alloc: Global, entries: u32) -> Result<Vec<Option<u32>>, AllocError>
+    ensures { IfOk result (λ table. table.items ≡ replicate entries None) }
+{
+    vec![in alloc; None; entries as usize]
 }
 
 /// Puts functions into a table from an entry on.

@@ -4,9 +4,9 @@
 mod constants;
 mod elems;
 mod instance;
-mod instantiate;
 mod segments;
 mod spaces;
+mod start;
 
 pub use instance::Instance;
-pub use instantiate::{InstEnd, instantiate};
+pub use start::{InstEnd, instantiate};

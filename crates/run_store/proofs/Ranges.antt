@@ -1,6 +1,6 @@
 -- Ranges of bytes, and numbers in them.
-use Rattle.std.proofs.Common.{◌≡◌, ℕ, zero, suc, ◌+◌, ◌-◌, ◌*◌, ◌/◌, ◌%◌, ◌^◌, ◌<◌, ◌≤◌, List, [], ◌∷◌, ◌++◌, length, take, drop, replicate, get_or, set, All, refl, sym, ap, ap₂, ◌∙◌, arith, mod-lt, min}
-use Rattle.std.specs.Int.{w64, from_le_bytes, to_le_bytes, bytes_low_first, byte_at}
+use Rattle.std.proofs.Common.{◌≡◌, ℕ, zero, suc, ◌+◌, ◌-◌, ◌*◌, ◌/◌, ◌%◌, ◌^◌, ◌<◌, ◌≤◌, List, [], ◌∷◌, ◌++◌, length, take, drop, replicate, get_or, set, All, refl, sym, ap, ap₂, ◌∙◌, arith, mod-lt}
+use Rattle.std.specs.Int.{w64, from_le_bytes, to_le_bytes, bytes_low_first}
 use Rattle.std.proofs.lemmas.List.{append_assoc, drop-drop, drop_more, take_at, length-take-le, length-drop, length-append, length-replicate}
 use Rattle.std.proofs.Math.Nat.{div-div-eq-div-mul, pow-suc}
 use Rattle.std.proofs.lemmas.List.Edits.{sets, sets-eq}
@@ -43,7 +43,8 @@ cell_is (x ∷ xs) (suc k) = cell_is xs k
 pub bytes_at_is : (at count : ℕ) (xs : List ℕ) → at + count ≤ length xs → bytes_at at count xs ≡ take count (drop at xs)
 bytes_at_is at zero xs le = refl
 bytes_at_is at (suc count) xs le =
-    ap₂ {A = ℕ} {B = List ℕ} (λ x l. x ∷ l) (cell_is xs at) (bytes_at_is (at + 1) count xs (omega arith)) ∙ sym (ap (take (suc count)) (drop_more xs at 0 (omega arith)))
+    ap₂ {A = ℕ} {B = List ℕ} (λ x l. x ∷ l) (cell_is xs at) (bytes_at_is (at + 1) count xs (omega arith))
+    ∙ sym (ap (take (suc count)) (drop_more xs at 0 (omega arith)))
 
 pub bytes_at_long : (at count : ℕ) (xs : List ℕ) → length (bytes_at at count xs) ≡ count
 bytes_at_long at zero xs = refl
@@ -77,8 +78,9 @@ written_long at these xs le =
     ap length (written_is at these xs le) ∙ (simp length-append (omega (arith, length-take-le at xs (omega arith), length-drop (at + length these) xs)))
 
 -- pages stay pages where bytes are written within them
-pub still_paged : (p : Paged) (n at : ℕ) (xs rest these : List ℕ) → IsPaged p → xs ≡ written at these p.bytes → at + length these ≤ length p.bytes → All IsByte these → n ≡ length p.bytes → IsPaged (record p { bytes = take n (xs ++ rest) })
-still_paged p n at xs rest these h same le fit long =
+pub still_paged : {p : Paged} {xs : List ℕ} (n at : ℕ) (rest these : List ℕ) → IsPaged p → xs ≡ written at these p.bytes → at + length these ≤ length p.bytes
+    → All IsByte these → n ≡ length p.bytes → IsPaged (record p { bytes = take n (xs ++ rest) })
+still_paged {p} {xs} n at rest these h same le fit long =
     let w = written_long at these p.bytes le in
     let e : take n (xs ++ rest) ≡ written at these p.bytes = take_at xs rest n (ap length same ∙ (w ∙ sym long)) ∙ same in
     record {
@@ -132,16 +134,20 @@ pub padded_number : (j : ℕ) (bs xs : List ℕ) → j ≤ 8 → length xs ≡ j
 padded_number j bs xs le long same =
     let rest : drop j (replicate 8 0) ≡ replicate (8 - j) 0 = zeros_left j 8 le in
     let e : bs ≡ xs ++ replicate (8 - j) 0 = same ∙ ap (λ l. xs ++ l) rest in
-    let n : length bs ≡ 8 = ap length e ∙ simp (length-append, length-replicate) (omega arith) in
+    let n : length bs ≡ 8 = ap length e ∙ (length-append xs (replicate (8 - j) 0) ∙ total j xs le long) in
     number_of_eight bs n ∙ (ap number_from e ∙ number_padded xs (8 - j))
   where
+    total : (j : ℕ) (xs : List ℕ) → j ≤ 8 → length xs ≡ j → length xs + length (replicate {A = ℕ} (8 - j) 0) ≡ 8
+    total j xs le long = omega (arith, length-replicate {A = ℕ} (8 - j) 0)
+
     zeros_left : (j k : ℕ) → j ≤ k → drop j (replicate {A = ℕ} k 0) ≡ replicate (k - j) 0
     zeros_left zero k le = ap (λ m. replicate {A = ℕ} m 0) (omega arith)
     zeros_left (suc j) zero le = absurd (omega arith)
     zeros_left (suc j) (suc k) le = zeros_left j k (omega arith) ∙ ap (λ m. replicate {A = ℕ} m 0) (omega arith)
 
 -- a copy within a list, as std writes it
-pub copied : (to from count : ℕ) (xs : List ℕ) → from + count ≤ length xs → to + count ≤ length xs → copy_within xs from (from + count) to ≡ written to (bytes_at from count xs) xs
+pub copied : (to from count : ℕ) (xs : List ℕ) → from + count ≤ length xs → to + count ≤ length xs
+    → copy_within xs from (from + count) to ≡ written to (bytes_at from count xs) xs
 copied to from count xs inside within =
     let n : from + count - from ≡ count = omega arith in
     let e = bytes_at_is from count xs inside in

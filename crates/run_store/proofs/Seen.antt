@@ -1,5 +1,5 @@
 -- What the host sees of a global, by its number.
-use Rattle.std.proofs.Common.{◌≡◌, ℕ, zero, suc, ◌+◌, ◌<◌, ◌≤◌, Bool, true, false, ◌&&◌, ◌||◌, ◌==◌, List, [], ◌∷◌, ◌++◌, length, map, get_or, nat_lt, nat_le, Option, Some, None, refl, sym, ap, ◌∙◌, subst, cond, rules, arith}
+use Rattle.std.proofs.Common.{◌≡◌, ℕ, zero, suc, ◌+◌, ◌<◌, Bool, true, false, ◌&&◌, ◌||◌, ◌==◌, List, [], ◌∷◌, ◌++◌, length, map, get_or, nat_lt, Some, None, refl, ap, ◌∙◌, subst, cond, rules, arith}
 use Rattle.std.proofs.lemmas.Bool.Decides.{nat_tests}
 use Rattle.std.specs.Prelude.{ℤ, slice_get}
 use Rattle.std.specs.List.{list_all, list_any}
@@ -46,7 +46,8 @@ seen_at m (y ∷ gs) j zero g z h =
     let e : y ≡ g = cc in
     let n : j ≡ j + 0 = omega arith in
     subst (λ (x : GlobalType). global_fits (slice_get (seen_from m j (y ∷ gs)) 0) z ≡ (global_visible m (j + 0) x && in_range x.kind z)) e
-        (subst (λ i. global_fits (Some (cond (global_visible m j y) (Some y.kind) None)) z ≡ (global_visible m i y && in_range y.kind z)) n (cases_fit (global_visible m j y) y z))
+    (subst (λ i. global_fits (Some (cond (global_visible m j y) (Some y.kind) None)) z ≡ (global_visible m i y && in_range y.kind z)) n
+    (cases_fit (global_visible m j y) y z))
 seen_at m (y ∷ gs) j (suc k) g z h =
     seen_at m gs (j + 1) k g z h ∙ ap (λ i. global_visible m i g && in_range g.kind z) (omega arith)
 
@@ -65,7 +66,8 @@ by_place : (m : Module) (k : ℕ) (g : GlobalType) (z : ℤ) → slice_get (glob
 by_place m k g z h = seen_at m (globals_of m) 0 k g z h ∙ ap (λ i. global_visible m i g && in_range g.kind z) (omega arith)
 
 -- an imported global
-pub imported_fit : (m : Module) (k : ℕ) (g : GlobalType) (z : ℤ) → slice_get (imported global_import m.imports) k ≡ Some g → fits_at m k z ≡ ((g.mutable && true) && in_range g.kind z)
+pub imported_fit : (m : Module) (k : ℕ) (g : GlobalType) (z : ℤ) → slice_get (imported global_import m.imports) k ≡ Some g
+    → fits_at m k z ≡ ((g.mutable && true) && in_range g.kind z)
 imported_fit m k g z h =
     by_place m k g z (front (imported global_import m.imports) (map global_kind m.globals) k g h)
     ∙ ap (λ b. (g.mutable && (b || exported m k)) && in_range g.kind z) (inside (imported global_import m.imports) k g h)
@@ -78,7 +80,8 @@ own_fit m k left d z e h =
     by_place m k d.kind z (back (imported global_import m.imports) (map global_kind m.globals) k left e ∙ mapped global_kind m.globals left d h)
     ∙ ap (λ b. (d.kind.mutable && (b || exported m k)) && in_range d.kind.kind z) off
 
-pub none_fit : (m : Module) (k left : ℕ) (z : ℤ) → k ≡ left + length (imported global_import m.imports) → slice_get m.globals left ≡ None → fits_at m k z ≡ false
+pub none_fit : (m : Module) (k left : ℕ) (z : ℤ) → k ≡ left + length (imported global_import m.imports) → slice_get m.globals left ≡ None
+    → fits_at m k z ≡ false
 none_fit m k left z e h =
     unseen_at m (globals_of m) 0 k z (back (imported global_import m.imports) (map global_kind m.globals) k left e ∙ unmapped global_kind m.globals left h)
 

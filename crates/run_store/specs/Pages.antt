@@ -1,6 +1,5 @@
 -- What a page store holds (WebAssembly Core Specification 1.0, section 4.2.8), and what growing it gives (section 4.4.4).
 use Rattle.std.specs.Prelude.{◌≡◌, ℕ, ◌+◌, ◌*◌, ◌<◌, ◌≤◌, ◌⊎◌, ◌&&◌, Bool, if◌then◌else◌, List, [], ◌∷◌, ◌++◌, length, replicate, All, Option, Some, None, nat_le}
-use Rattle.wasm_types.specs.declared.module.Limits.{Limits}
 use Rattle.wasm_types.specs.Hosts.{is_within}
 use Rattle.wasm_meaning.specs.Memory.{bytes_at, written, most_of}
 

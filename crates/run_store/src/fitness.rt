@@ -7,8 +7,11 @@ ghost use Rattle.wasm_types.specs.Hosts.{bytes_fit, global_fits, in_range, is_gl
 ghost use Rattle.wasm_types.specs.Spaces.{global_import, globals_of, import_count, imported, memory_import};
 ghost use Rattle.run_store.specs.Fits.{FindsGlobal, fits_import};
 
+use crate::pages::PAGE_BYTES;
 use sqlite_items::Items;
-use wasm_types::{Export, ExportKind, GlobalType, Import, ImportKind, Module, Reply, ValType, ValidModule};
+use wasm_types::{
+    Export, ExportKind, GlobalType, Import, ImportKind, Module, Reply, ValType, ValidModule,
+};
 
 /// Whether a reply fits the imported function of that number, where the memory has so many pages: its result and the values for globals are in range, it
 /// writes only what the host sees, and its bytes lie within the memory.
@@ -21,7 +24,7 @@ pub fn fits(m: &ValidModule, import: u32, reply: &Reply, pages: u32) -> bool
         return false;
     };
     let visible = is_memory_visible(m);
-    let long = 65536 * u64::from(pages);
+    let long = PAGE_BYTES * u64::from(pages);
     is_result_fit(kind.results.as_slice(), reply.result)
         && are_globals_fit(m, reply.globals.as_slice())
         && are_bytes_fit(visible, long, reply.bytes.as_slice())
@@ -127,7 +130,11 @@ fn is_global_fit(m: &Module, global: u32, number: i128) -> bool
     match imported_global(m.imports.as_slice(), global) {
         Ok(kind) => is_seen_fit(kind, true, number),
         Err(own) => match m.globals.get(own as usize) {
-            Some(own) => is_seen_fit(own.kind, exports_global(m.exports.as_slice(), global), number),
+            Some(own) => is_seen_fit(
+                own.kind,
+                exports_global(m.exports.as_slice(), global),
+                number,
+            ),
             None => false,
         },
     }
@@ -137,7 +144,9 @@ fn is_global_fit(m: &Module, global: u32, number: i128) -> bool
 fn are_globals_fit(m: &Module, writes: &[(u32, i128)]) -> bool
     ensures { result ≡ list_all (λ w. global_fits (slice_get (seen_from m.now 0 (globals_of m.now)) w.0) w.1) writes.now }
 {
-    writes.iter().all(|write| is_global_fit(m, write.0, write.1))
+    writes
+        .iter()
+        .all(|write| is_global_fit(m, write.0, write.1))
 }
 
 /// Whether so many bytes from an address on lie within a memory of this length that the host sees.

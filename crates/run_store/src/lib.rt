@@ -7,6 +7,6 @@ mod pages;
 mod script;
 
 pub use fitness::fits;
-pub use pages::PageStore;
+pub use pages::{PAGE_BYTES, PageStore};
 pub use script::Script;
 pub use wasm_types::Reply;

@@ -7,7 +7,10 @@ use std::alloc::Global;
 use std::marker::Model;
 use wasm_types::{MOST_PAGES, NoMemory};
 
-/// Pages of 65,536 bytes, and how many there may be.
+/// The bytes of a page (WebAssembly Core Specification 1.0, section 4.2.8).
+pub const PAGE_BYTES: u64 = 65_536;
+
+/// Pages of bytes, and how many there may be.
 #[derive(Drop)]
 pub struct PageStore {
     pages: u32,
@@ -41,7 +44,7 @@ impl PageStore {
         requires { pages ≤ most_pages max cap }
         ensures { IfOk result (λ p. p ≡ record { pages = pages; bytes = zero_pages pages; max = max; cap = cap }) }
     {
-        let bytes = vec![in alloc; 0; PAGE * pages as usize]?;
+        let bytes = vec![in alloc; 0; PAGE_BYTES as usize * pages as usize]?;
         Ok(PageStore {
             pages,
             bytes,
@@ -108,7 +111,8 @@ impl PageStore {
         if by > self.most() - old {
             return Ok(None);
         }
-        self.bytes.resize(PAGE * (old + by) as usize, 0)?;
+        self.bytes
+            .resize(PAGE_BYTES as usize * (old + by) as usize, 0)?;
         self.pages = old + by;
         Ok(Some(old))
     }
@@ -156,6 +160,3 @@ impl PageStore {
         Some(())
     }
 }
-
-/// The bytes of a page.
-const PAGE: usize = 65536;

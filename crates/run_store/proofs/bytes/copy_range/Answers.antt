@@ -1,4 +1,4 @@
-use Rattle.std.proofs.Common.{◌∙◌, sym, ap, arith}
+use Rattle.std.proofs.Common.{◌∙◌}
 use Rattle.run_store.proofs.Ranges.{copied}
 use Rattle.run_store.proofs.bytes.copy_range.Goals as goal
 

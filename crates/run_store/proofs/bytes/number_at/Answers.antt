@@ -6,6 +6,9 @@ use Rattle.run_store.proofs.bytes.number_at.Goals as goal
 pub returns : goal.returns
 returns g c =
     let n : c.args.at + g.row.N - c.args.at ≡ g.row.N = omega arith in
-    let e = c.copy_from_slice.ensures.after ∙ (ap (λ k. take k (drop c.args.at c.args.bytes.now)) n ∙ sym (bytes_at_is c.args.at g.row.N c.args.bytes.now c.requires.within)) in
-    c.from_le_bytes.ensures ∙ padded_number g.row.N (c.copy_from_slice.new.self ++ drop g.row.N (replicate {A = ℕ} 8 0)) (bytes_at c.args.at g.row.N c.args.bytes.now) c.requires.width (bytes_at_long c.args.at g.row.N c.args.bytes.now)
-    (ap (λ (l : List ℕ). l ++ drop g.row.N (replicate {A = ℕ} 8 0)) e)
+    let bytes = c.args.bytes.now in
+    let e = c.copy_from_slice.ensures.after
+    ∙ (ap (λ k. take k (drop c.args.at bytes)) n ∙ sym (bytes_at_is c.args.at g.row.N bytes c.requires.within)) in
+    c.from_le_bytes.ensures
+    ∙ padded_number g.row.N (c.copy_from_slice.new.self ++ drop g.row.N (replicate {A = ℕ} 8 0)) (bytes_at c.args.at g.row.N bytes) c.requires.width
+    (bytes_at_long c.args.at g.row.N bytes) (ap (λ (l : List ℕ). l ++ drop g.row.N (replicate {A = ℕ} 8 0)) e)

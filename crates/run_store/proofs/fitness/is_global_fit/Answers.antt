@@ -1,4 +1,4 @@
-use Rattle.std.proofs.Common.{◌≡◌, ◌+◌, ◌&&◌, ◌==◌, Bool, true, List, Some, None, length, sym, ap, ◌∙◌}
+use Rattle.std.proofs.Common.{◌≡◌, ◌+◌, ◌&&◌, ◌==◌, true, List, Some, length, sym, ap, ◌∙◌}
 use Rattle.std.specs.Prelude.{slice_get}
 use Rattle.std.specs.Int.{w128}
 use Rattle.std.proofs.lemmas.Int.{to_z-of_z}
@@ -14,26 +14,28 @@ pub returns-in-Ok : goal.returns-in-Ok
 returns-in-Ok c =
     let m = c.args.m.now in
     let found : slice_get (imported global_import m.imports) c.args.global ≡ Some c.in-Ok.kind =
-        sym (ap (λ (l : List Import). slice_get (imported global_import l) c.args.global) c.as_slice.ensures) ∙ c.in-Ok.ensures in
+    sym (ap (λ (l : List Import). slice_get (imported global_import l) c.args.global) c.as_slice.ensures) ∙ c.in-Ok.ensures in
     c.is_seen_fit.ensures
-    ∙ (ap (λ z. (c.in-Ok.kind.mutable && true) && in_range c.in-Ok.kind.kind z) (to_z-of_z w128 c.args.number c.ranges.number.sfits)
+    ∙ (ap (λ z. (c.in-Ok.kind.mutable && true) && in_range c.in-Ok.kind.kind z) (to_z-of_z w128 c.args.number c.ranges.number)
     ∙ sym (imported_fit m c.args.global c.in-Ok.kind c.args.number found))
 
 pub returns-in-Some : goal.returns-in-Some
 returns-in-Some c =
     let m = c.args.m.now in
     let past : c.args.global ≡ c.in-Err.own + length (imported global_import m.imports) =
-        c.in-Err.ensures ∙ ap (λ (l : List Import). c.in-Err.own + length (imported global_import l)) c.as_slice.ensures in
+    c.in-Err.ensures ∙ ap (λ (l : List Import). c.in-Err.own + length (imported global_import l)) c.as_slice.ensures in
     let shown : c.exports_global.result ≡ exported m c.args.global =
-        c.exports_global.ensures ∙ ap (λ (l : List Export). list_any (λ (e : Export). is_global e.kind && (e.index == c.args.global)) l) c.as_slice-in-Some.ensures in
+    c.exports_global.ensures
+    ∙ ap (λ (l : List Export). list_any (λ (e : Export). is_global e.kind && (e.index == c.args.global)) l) c.as_slice-in-Some.ensures in
+    let own = c.in-Some.own.now in
     c.is_seen_fit-in-Some.ensures
-    ∙ (ap (λ z. (c.in-Some.own.now.kind.mutable && c.exports_global.result) && in_range c.in-Some.own.now.kind.kind z) (to_z-of_z w128 c.args.number c.ranges.number.sfits)
-    ∙ (ap (λ b. (c.in-Some.own.now.kind.mutable && b) && in_range c.in-Some.own.now.kind.kind c.args.number) shown
-    ∙ sym (own_fit m c.args.global c.in-Err.own c.in-Some.own.now c.args.number past (sym c.in-Some.ensures.value))))
+    ∙ (ap (λ z. (own.kind.mutable && c.exports_global.result) && in_range own.kind.kind z) (to_z-of_z w128 c.args.number c.ranges.number)
+    ∙ (ap (λ b. (own.kind.mutable && b) && in_range own.kind.kind c.args.number) shown
+    ∙ sym (own_fit m c.args.global c.in-Err.own own c.args.number past (sym c.in-Some.ensures.value))))
 
 pub returns-in-None : goal.returns-in-None
 returns-in-None c =
     let m = c.args.m.now in
     let past : c.args.global ≡ c.in-Err.own + length (imported global_import m.imports) =
-        c.in-Err.ensures ∙ ap (λ (l : List Import). c.in-Err.own + length (imported global_import l)) c.as_slice.ensures in
+    c.in-Err.ensures ∙ ap (λ (l : List Import). c.in-Err.own + length (imported global_import l)) c.as_slice.ensures in
     sym (none_fit m c.args.global c.in-Err.own c.args.number past (sym c.in-None.ensures.value))

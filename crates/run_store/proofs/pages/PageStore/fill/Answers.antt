@@ -8,6 +8,6 @@ use Rattle.run_store.proofs.pages.PageStore.fill.Goals as goal
 
 pub invariant_of-self : goal.invariant_of-self
 invariant_of-self c =
-    let b = c.self.inside.bytes.items in
-    still_paged (record { pages = c.self.inside.pages; bytes = b; max = c.self.inside.max; cap = c.self.inside.cap }) _ c.args.at c.fill_range.new.bytes _ (replicate c.args.count c.args.byte)
-    c.self.invariant (c.fill_range.ensures ∙ ap (written c.args.at (replicate c.args.count c.args.byte)) c.as_mut_slice.ensures.value) (omega (arith, length-replicate c.args.count c.args.byte)) (All-replicate IsByte _ _ (omega arith)) (omega arith)
+    let these = replicate c.args.count c.args.byte in
+    still_paged _ c.args.at _ these c.self.invariant (c.fill_range.ensures ∙ ap (written c.args.at these) c.as_mut_slice.ensures.value)
+    (omega (arith, length-replicate c.args.count c.args.byte)) (All-replicate IsByte _ _ (omega arith)) (omega arith)

@@ -5,6 +5,6 @@ use Rattle.run_store.proofs.pages.PageStore.store.Goals as goal
 
 pub invariant_of-self : goal.invariant_of-self
 invariant_of-self c =
-    let b = c.self.inside.bytes.items in
-    still_paged (record { pages = c.self.inside.pages; bytes = b; max = c.self.inside.max; cap = c.self.inside.cap }) _ c.args.at c.store_number.new.bytes _ (bytes_of c.args.width c.args.number)
-    c.self.invariant (c.store_number.ensures ∙ ap (written c.args.at (bytes_of c.args.width c.args.number)) c.as_mut_slice.ensures.value) (omega (arith, bytes_of_long c.args.width c.args.number)) (bytes_of_fit _ _) (omega arith)
+    let these = bytes_of c.args.width c.args.number in
+    still_paged _ c.args.at _ these c.self.invariant (c.store_number.ensures ∙ ap (written c.args.at these) c.as_mut_slice.ensures.value)
+    (omega (arith, bytes_of_long c.args.width c.args.number)) (bytes_of_fit _ _) (omega arith)

@@ -7,7 +7,6 @@ use Rattle.run_store.proofs.pages.PageStore.write.Goals as goal
 
 pub invariant_of-self : goal.invariant_of-self
 invariant_of-self c =
-    let b = c.self.inside.bytes.items in
-    still_paged (record { pages = c.self.inside.pages; bytes = b; max = c.self.inside.max; cap = c.self.inside.cap }) _ c.args.at c.put_bytes.new.bytes _ c.args.these.now
-    c.self.invariant (c.put_bytes.ensures ∙ ap (written c.args.at c.args.these.now) c.as_mut_slice.ensures.value) (omega arith)
-    (All-from_get_or IsByte c.args.these.now 0 (λ i lt. omega (arith, c.type_inv.these i))) (omega arith)
+    let these = c.args.these.now in
+    still_paged _ c.args.at _ these c.self.invariant (c.put_bytes.ensures ∙ ap (written c.args.at these) c.as_mut_slice.ensures.value) (omega arith)
+    (All-from_get_or IsByte these 0 (λ i lt. omega (arith, c.type_inv.these i))) (omega arith)

@@ -3,15 +3,15 @@
 ghost use Rattle.std.specs.Prelude.{◌≡◌, map};
 ghost use Rattle.wasm_types.specs.Spaces.{global_import, imported};
 ghost use Rattle.wasm_meaning.specs.Fits.{HaveTypes, global_type};
-ghost use Rattle.inst_make.specs.declared.instantiate.InstEnd.TheVariants as InstEnd;
+ghost use Rattle.inst_make.specs.declared.start.InstEnd.TheVariants as InstEnd;
 ghost use Rattle.inst_make.specs.Starts.{Instantiates};
 
 use crate::constants::all_globals;
-use crate::elems::{first_elem_out, write_elems};
+use crate::elems::{empty_table, first_elem_out, write_elems};
 use crate::instance::Instance;
 use crate::segments::{first_segment_out, write_segments};
 use crate::spaces::{memory_limits, table_size};
-use run_store::{PageStore, Script};
+use run_store::{PAGE_BYTES, PageStore, Script};
 use std::alloc::{AllocError, Global};
 use thiserror::Error;
 use wasm_types::{NoMemory, ValidModule, Value};
@@ -54,7 +54,7 @@ impl From<AllocError> for InstEnd {
 /// tested before any is written; where a later one overlaps an earlier one, the later one's contents stay. There may be no more pages than the cap.
 ///
 /// The refusals come in this order: the memory begins with more pages than the cap; an element segment passes the end of the table; a data segment passes the
-/// end of the memory. The first such segment is told.
+/// end of the memory. The first such segment is told. A refusal consumes the script.
 pub fn instantiate(
     alloc: Global,
     m: &ValidModule,
@@ -71,18 +71,19 @@ pub fn instantiate(
         return Err(InstEnd::TooManyPages { min: memory.min });
     }
     let globals = all_globals(alloc, globals, m.globals.as_slice())?;
+    let values = globals.as_slice();
     let size = table_size(m);
-    if let Some(k) = first_elem_out(m.elems.as_slice(), globals.as_slice(), size) {
+    if let Some(k) = first_elem_out(m.elems.as_slice(), values, size) {
         return Err(InstEnd::ElemOut { k });
     }
-    let long = 65536 * u64::from(memory.min);
-    if let Some(k) = first_segment_out(m.segments.as_slice(), globals.as_slice(), long) {
+    let long = PAGE_BYTES * u64::from(memory.min);
+    if let Some(k) = first_segment_out(m.segments.as_slice(), values, long) {
         return Err(InstEnd::DataOut { k });
     }
     let mut store = PageStore::make(alloc, memory.min, memory.max, cap)?;
-    let mut entries = vec![in alloc; None; size as usize]?;
-    write_elems(entries.as_mut_slice(), m.elems.as_slice(), globals.as_slice());
-    write_segments(&mut store, m.segments.as_slice(), globals.as_slice());
+    let mut entries = empty_table(alloc, size)?;
+    write_elems(entries.as_mut_slice(), m.elems.as_slice(), values);
+    write_segments(&mut store, m.segments.as_slice(), values);
     Ok(Instance {
         globals,
         store,
