@@ -2,3 +2,4 @@ pub mod World
 pub mod Machine
 pub mod Config
 pub mod Follows
+pub mod Invokes

@@ -54,6 +54,7 @@ pub(crate) fn call_host(m: &ValidModule, inst: &mut Instance, func: u32) -> Resu
     requires globals { HaveTypes inst.old.globals.items (map global_type (globals_of m.now)) }
     ensures answer { (H : HostFunc) → host_of m.now func ≡ Some H → AnswersAs result (world_of inst.new) (host_call H (world_of inst.old)) }
     ensures table { inst.new.entries.items ≡ inst.old.entries.items }
+    ensures spent { inst.new.spent ≡ inst.old.spent }
 {
     let Some(reply) = inst.script.next() else {
         return Err(Reason::ReplyMissing);

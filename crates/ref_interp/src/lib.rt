@@ -3,6 +3,7 @@
 
 mod callees;
 mod host;
+mod invoke;
 mod machine;
 mod memory;
 mod numbers;
