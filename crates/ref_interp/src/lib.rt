@@ -3,9 +3,11 @@
 
 mod callees;
 mod host;
-mod invoke;
+mod invocation;
 mod machine;
 mod memory;
 mod numbers;
 mod run;
 mod step;
+
+pub use invocation::{InvokeEnd, Run, invoke};
