@@ -26,11 +26,17 @@ fn are_same(left: &[ValType], right: &[ValType]) -> bool
 fn is_same(left: &FuncType, right: &FuncType) -> bool
     ensures { result ≡ same_type left.now right.now }
 {
-    are_same(left.params.as_slice(), right.params.as_slice()) && are_same(left.results.as_slice(), right.results.as_slice())
+    are_same(left.params.as_slice(), right.params.as_slice())
+        && are_same(left.results.as_slice(), right.results.as_slice())
 }
 
 /// The function that an entry of the table holds, where its type is that of a number.
-pub(crate) fn find(m: &Module, entries: &[Option<u32>], kind: u32, index: u64) -> Result<u32, Reason>
+pub(crate) fn find(
+    m: &Module,
+    entries: &[Option<u32>],
+    kind: u32,
+    index: u64,
+) -> Result<u32, Reason>
     ensures { found_as result ≡ found_at (callees m.now) kind (slice_get entries.now index) }
 {
     let entry = match entries.get(index as usize) {

@@ -49,7 +49,11 @@ fn write_bytes(store: &mut PageStore, writes: &[(u32, Items<u8>)])
 
 /// The number of the result of a call of an imported function, or why it traps: `ReplyMissing` exactly where all replies were used, and
 /// `ReplyUnfit` exactly where the next one doesn't fit.
-pub(crate) fn call_host(m: &ValidModule, inst: &mut Instance, func: u32) -> Result<Option<u64>, Reason>
+pub(crate) fn call_host(
+    m: &ValidModule,
+    inst: &mut Instance,
+    func: u32,
+) -> Result<Option<u64>, Reason>
     requires import { func < import_count m.now }
     requires globals { HaveTypes inst.old.globals.items (map global_type (globals_of m.now)) }
     ensures answer { (H : HostFunc) → host_of m.now func ≡ Some H → AnswersAs result (world_of inst.new) (host_call H (world_of inst.old)) }

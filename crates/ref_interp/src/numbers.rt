@@ -56,11 +56,19 @@ pub(crate) fn value_for(kind: ValType, number: i128) -> Value
 {
     match kind {
         ValType::I64 => {
-            let shifted = if number < 0 { number + 0x1_0000_0000_0000_0000 } else { number };
+            let shifted = if number < 0 {
+                number + 0x1_0000_0000_0000_0000
+            } else {
+                number
+            };
             Value::I64(shifted as u64)
         }
         _ => {
-            let shifted = if number < 0 { number + 0x1_0000_0000 } else { number };
+            let shifted = if number < 0 {
+                number + 0x1_0000_0000
+            } else {
+                number
+            };
             Value::I32(shifted as u32)
         }
     }

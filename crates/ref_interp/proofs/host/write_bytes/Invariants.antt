@@ -1,4 +1,4 @@
-use Rattle.std.proofs.Common.{◌≡◌, drop, true, length}
+use Rattle.std.proofs.Common.{◌≡◌}
 use Rattle.ref_interp.proofs.HostWrites.{Fills}
 use Rattle.ref_interp.proofs.host.write_bytes.Given as goal
 
