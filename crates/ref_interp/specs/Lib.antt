@@ -1,0 +1,5 @@
+pub mod World
+pub mod Machine
+pub mod Config
+pub mod Follows
+pub mod Invokes

@@ -1,0 +1,13 @@
+//! The interpreter: invocations of a module's functions, exactly by the meaning.
+#![tactic(auto)]
+
+mod callees;
+mod host;
+mod invocation;
+mod machine;
+mod memory;
+mod numbers;
+mod run;
+mod step;
+
+pub use invocation::{InvokeEnd, Run, invoke};
