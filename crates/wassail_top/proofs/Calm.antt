@@ -1,13 +1,14 @@
 -- No answer has the status of a fault or of an allocation that is refused, and only refused words have that of refused words.
-use Rattle.std.proofs.Common.{◌≡◌, ◌≢◌, ◌⊎◌, ◌<◌, ℕ, List, sym, ap, inl, inr, arith, None, Some, Err, subst}
-use Rattle.std.specs.declared.option.Option.{Option}
+use Rattle.std.proofs.Common.{◌≡◌, ◌≢◌, ◌⊎◌, ◌<◌, ℕ, List, sym, ap, inl, inr, arith, Option, None, Some, Err, refl, subst}
 use Rattle.wasm_types.specs.declared.module.Module.{Module}
+use Rattle.report_text.specs.declared.refusal.QueryRefusal.{QueryRefusal}
+use Rattle.report_text.specs.Listing.{listing}
 use Rattle.wasm_decode.specs.Decode.{Decodes}
 use Rattle.wasm_validate.specs.Admission.{Refuses}
 use Rattle.wassail_top.specs.Orders.{Order}
-use Rattle.wassail_top.specs.Orders.Order.{check, rewrite, slice}
-use Rattle.wassail_top.specs.Answers.{Answers, AnswersOrder, AnswersModule, AnswersAdmitted, IsDue}
-use Rattle.wassail_top.specs.Refusals.{Answer, why_not_decoded, why_not_admitted, why_not_sliced}
+use Rattle.wassail_top.specs.Orders.Order.{check, rewrite, list, slice}
+use Rattle.wassail_top.specs.Answers.{Answers, AnswersOrder, AnswersModule, AnswersAdmitted, IsDue, bytes_alone}
+use Rattle.wassail_top.specs.Refusals.{Answer, unless_refused, why_no_code, why_not_decoded, why_not_admitted, why_not_sliced}
 use Rattle.slice_whole.specs.Slices as query
 use Rattle.wassail_top.specs.Words.{order_of}
 use Rattle.wassail_top.specs.Outcome.{ReadFailed, GaveAll}
@@ -27,9 +28,14 @@ calm status (inr high) = record { known = λ p. omega arith; no_read_fault = λ 
 calm_at : (answer : Answer) (status : ℕ) → answer.status ≡ status → (status < 2) ⊎ (5 < status) → IsCalm answer.status
 calm_at answer status same far = subst (λ (n : ℕ). IsCalm n) (sym same) (calm status far)
 
+calm_unless : (why : Option QueryRefusal) (bytes : List ℕ) (answer : Answer) → answer ≡ unless_refused why (bytes_alone bytes) → IsCalm answer.status
+calm_unless None bytes answer h = calm_at answer 0 (ap (λ (a : Answer). a.status) h) (inl (omega arith))
+calm_unless (Some why) bytes answer h = calm_at answer 6 (ap (λ (a : Answer). a.status) h) (inr (omega arith))
+
 calm_admitted : (order : Order) (m : Module) (answer : Answer) → AnswersAdmitted order m answer → IsCalm answer.status
 calm_admitted check m answer h = calm_at answer 0 (ap (λ (a : Answer). a.status) h) (inl (omega arith))
 calm_admitted rewrite m answer h = calm_at answer 0 (ap (λ (a : Answer). a.status) h) (inl (omega arith))
+calm_admitted (list func) m answer h = calm_unless (why_no_code m func) (listing m func) answer h
 calm_admitted (slice func at name) m answer (inl unbuilt) = calm_at answer 6 (ap (λ (a : Answer). a.status) unbuilt.1) (inr (omega arith))
 calm_admitted (slice func at name) m answer (inr (flat, inl bad)) =
     calm_at answer 6 (query_status (query.Refuses m func at name) (why_not_sliced func at) answer bad) (inr (omega arith))

@@ -8,7 +8,7 @@ use Rattle.wasm_decode.specs.Decode.{Decodes}
 use Rattle.wasm_validate.specs.Admission.{Refuses}
 use Rattle.wassail_top.specs.Answers.{Answers, AnswersOrder, AnswersBytes, AnswersModule, AnswersAdmitted, most_bytes}
 use Rattle.wassail_top.specs.Orders.{Order}
-use Rattle.wassail_top.specs.Orders.Order.{check, rewrite, slice}
+use Rattle.wassail_top.specs.Orders.Order.{check, rewrite, list, slice}
 use Rattle.wassail_top.specs.Refusals.{Answer, why_not_decoded, why_not_admitted}
 use Rattle.wassail_top.specs.Words.{order_of}
 use Rattle.wassail_top.proofs.Causes.{one_refused}
@@ -22,6 +22,7 @@ use Rattle.wassail_top.proofs.Reading.{all_taken, not_long}
 of_admitted : (order : Order) (m : Module) (a b : Answer) → AnswersAdmitted order m a → AnswersAdmitted order m b → a ≡ b
 of_admitted check m a b p q = p ∙ sym q
 of_admitted rewrite m a b p q = p ∙ sym q
+of_admitted (list func) m a b p q = p ∙ sym q
 of_admitted (slice func at name) m a b p q = one_slice func at name m a b p q
 
 of_module : (order : Order) (m : Module) (a b : Answer) → AnswersModule order m a → AnswersModule order m b → a ≡ b

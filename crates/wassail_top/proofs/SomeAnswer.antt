@@ -13,10 +13,11 @@ use Rattle.wasm_types.specs.Canon.{canon}
 use Rattle.wasm_types.specs.WellFormed.{IsU8, IsWellFormed}
 use Rattle.text_laws.proofs.ProperLemmas.{spelled_well_formed}
 use Rattle.wassail_top.specs.Answers.{IsText, HasAnswer, AnswersOrder, AnswersBytes, AnswersModule, AnswersAdmitted, bytes_alone, most_bytes}
+use Rattle.report_text.specs.Listing.{listing}
 use Rattle.wassail_top.specs.Orders.{Order, most_name_bytes}
-use Rattle.wassail_top.specs.Orders.Order.{check, rewrite, slice}
-use Rattle.wassail_top.specs.Refusals.{Answer, refused}
-use Rattle.wassail_top.specs.Words.{alone, number_of, order_of, two_and_name}
+use Rattle.wassail_top.specs.Orders.Order.{check, rewrite, list, slice}
+use Rattle.wassail_top.specs.Refusals.{Answer, refused, unless_refused, why_no_code}
+use Rattle.wassail_top.specs.Words.{alone, number_of, one, order_of, two_and_name}
 use Rattle.wassail_top.proofs.NotRefuted.{NotRefuted}
 use Rattle.wassail_top.proofs.SomeAdmission.{some_admission}
 use Rattle.wassail_top.proofs.SomeDecoding.{some_decoding}
@@ -28,6 +29,7 @@ use Rattle.wassail_top.proofs.SomeSlice.{some_slice}
 abbrev HasProperName : Order → Type 0
 HasProperName check = Unit {0}
 HasProperName rewrite = Unit {0}
+HasProperName (list func) = Unit {0}
 HasProperName (slice func at name) = IsText name × (length name ≤ most_name_bytes)
 
 -- the command, if there is one, has such a name
@@ -58,6 +60,15 @@ short_proper : (b : Bool) (x : Option Order) → (b ≡ true → IsProper x) →
 short_proper true x h = h refl
 short_proper false x h = none_proper
 
+number_proper : (x : Option ℕ) → IsProper (option_and_then (λ n. Some (list n)) x)
+number_proper None = none_proper
+number_proper (Some n) = some_proper (list n) tt
+
+list_proper : (rest : List (List ℕ)) → IsProper (one list rest)
+list_proper [] = none_proper
+list_proper (a ∷ []) = number_proper (number_of a)
+list_proper (a ∷ b ∷ rest) = none_proper
+
 slice_proper : (rest : List (List ℕ)) → All IsText rest → IsProper (two_and_name slice rest)
 slice_proper [] all = none_proper
 slice_proper (a ∷ []) all = none_proper
@@ -73,13 +84,15 @@ words_proper [] all = none_proper
 words_proper (name ∷ rest) all =
     if_proper (bytes_eq name (codes "check")) _ _ (alone_proper check rest tt)
     (if_proper (bytes_eq name (codes "rewrite")) _ _ (alone_proper rewrite rest tt)
-    (if_proper (bytes_eq name (codes "slice")) _ _ (slice_proper rest (All-tail IsText name rest all)) none_proper))
+    (if_proper (bytes_eq name (codes "list")) _ _ (list_proper rest)
+    (if_proper (bytes_eq name (codes "slice")) _ _ (slice_proper rest (All-tail IsText name rest all)) none_proper)))
 
 -- ---- the answer
 
 some_admitted : (order : Order) (m : Module) → HasProperName order → NotRefuted ((answer : Answer) × AnswersAdmitted order m answer)
 some_admitted check m proper never = never (bytes_alone valid_line, refl)
 some_admitted rewrite m proper never = never (bytes_alone (canon m), refl)
+some_admitted (list func) m proper never = never (unless_refused (why_no_code m func) (bytes_alone (listing m func)), refl)
 some_admitted (slice func at name) m proper never = some_slice func at name m proper.0 proper.1 never
 
 some_module : (order : Order) (m : Module) → HasProperName order → IsWellFormed m → NotRefuted ((answer : Answer) × AnswersModule order m answer)

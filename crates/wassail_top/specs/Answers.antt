@@ -1,5 +1,5 @@
 -- What the program answers, by its words and by what its source has left (docs/COMMANDS.md).
-use Rattle.std.specs.Prelude.{◌≡◌, ◌⊎◌, ℕ, ◌+◌, ◌≤◌, List, [], length, All, IsUtf8, None, Some, Ok, Err}
+use Rattle.std.specs.Prelude.{◌≡◌, ◌⊎◌, ℕ, ◌+◌, ◌≤◌, List, [], length, All, IsUtf8, ⊤, None, Some, Ok, Err}
 use Rattle.std.specs.declared.option.Option.{Option}
 use Rattle.outside_io.specs.Causes.{Rose}
 use Rattle.outside_io.specs.Whole.{Took, TookAll, TookAtMost}
@@ -7,6 +7,7 @@ use Rattle.report_text.specs.declared.refusal.Refusal.TheVariants as refusal
 use Rattle.report_text.specs.declared.refusal.ModuleRefusal.TheVariants.{TooLong}
 use Rattle.report_text.specs.declared.refusal.QueryRefusal.TheVariants.{Unbuilt}
 use Rattle.report_text.specs.Texts.{slice_line, valid_line}
+use Rattle.report_text.specs.Listing.{listing}
 use Rattle.wasm_types.specs.declared.limits.TheConstants.{MOST_BYTES}
 use Rattle.wasm_types.specs.declared.module.Module.{Module}
 use Rattle.wasm_types.specs.declared.module.Name.{Name}
@@ -20,8 +21,8 @@ use Rattle.flow_domain.specs.Sliced.{func_count, IsSliced}
 use Rattle.slice_whole.specs.Slices.{Refuses}
 use Rattle.flow_domain.specs.Sliced.{HasExport}
 use Rattle.wassail_top.specs.Orders.{Order, most_name_bytes}
-use Rattle.wassail_top.specs.Orders.Order.{check, rewrite, slice}
-use Rattle.wassail_top.specs.Refusals.{Answer, refused, IsRefused, why_not_decoded, why_not_admitted, why_not_sliced}
+use Rattle.wassail_top.specs.Orders.Order.{check, rewrite, list, slice}
+use Rattle.wassail_top.specs.Refusals.{Answer, refused, HasNoRefusal, IsRefused, unless_refused, why_no_code, why_not_decoded, why_not_admitted, why_not_sliced}
 use Rattle.wassail_top.specs.Words.{order_of}
 
 -- the greatest number of bytes that a module may have
@@ -62,7 +63,15 @@ AnswersSlice f i name m answer = ((IsFlat m → ⊥) × (answer ≡ refused (ref
 abbrev pub AnswersAdmitted : Order → Module → Answer → Type 0
 AnswersAdmitted check m answer = answer ≡ bytes_alone valid_line
 AnswersAdmitted rewrite m answer = answer ≡ bytes_alone (canon m)
+AnswersAdmitted (list func) m answer = answer ≡ unless_refused (why_no_code m func) (bytes_alone (listing m func))
 AnswersAdmitted (slice func at name) m answer = AnswersSlice func at name m answer
+
+-- the query isn't refused about the module
+abbrev pub IsTaken : Order → Module → Type 0
+IsTaken check m = ⊤
+IsTaken rewrite m = ⊤
+IsTaken (list func) m = why_no_code m func ≡ None
+IsTaken (slice func at name) m = IsFlat m × HasNoRefusal (Refuses m func at name) (why_not_sliced func at)
 
 -- what a command answers about a module: the first refusal to admit it that holds, or its own answer
 abbrev pub AnswersModule : Order → Module → Answer → Type 0

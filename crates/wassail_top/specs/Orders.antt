@@ -3,17 +3,19 @@ use Rattle.std.specs.Prelude.{ℕ, ◌≤◌, List, length, ⊤}
 use Rattle.std.specs.String.{string_bytes}
 use Rattle.wasm_types.specs.declared.limits.TheConstants.{MOST_NAME_BYTES}
 use Rattle.wassail_top.specs.declared.words.Command.{Command}
-use Rattle.wassail_top.specs.declared.words.Command.TheVariants.{Check, Rewrite, Slice}
+use Rattle.wassail_top.specs.declared.words.Command.TheVariants as command
 
 pub data Order : Type 0 where
   check : Order
   rewrite : Order
+  list : (func : ℕ) → Order
   slice : (func at : ℕ) (name : List ℕ) → Order
 
 abbrev pub order_read : Command → Order
-order_read Check = check
-order_read Rewrite = rewrite
-order_read (Slice func at name) = slice func at (string_bytes name)
+order_read command.Check = check
+order_read command.Rewrite = rewrite
+order_read (command.List func) = list func
+order_read (command.Slice func at name) = slice func at (string_bytes name)
 
 -- the greatest number of bytes of a name
 abbrev pub most_name_bytes : ℕ
@@ -23,4 +25,5 @@ most_name_bytes = MOST_NAME_BYTES
 abbrev pub HasShortName : Order → Type 0
 HasShortName check = ⊤
 HasShortName rewrite = ⊤
+HasShortName (list func) = ⊤
 HasShortName (slice func at name) = length name ≤ most_name_bytes

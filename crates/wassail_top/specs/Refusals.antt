@@ -1,11 +1,14 @@
 -- What the program writes where there is no answer (docs/COMMANDS.md).
-use Rattle.std.specs.Prelude.{◌≡◌, ℕ, List, [], Option, Some, None}
+use Rattle.std.specs.Prelude.{◌≡◌, ℕ, List, [], length, Option, Some, None, nat_lt, if◌then◌else◌}
 use Rattle.report_text.specs.declared.refusal.Refusal.{Refusal}
+use Rattle.report_text.specs.declared.refusal.Refusal.TheVariants as refusal
 use Rattle.report_text.specs.declared.refusal.ModuleRefusal.{ModuleRefusal}
 use Rattle.report_text.specs.declared.refusal.ModuleRefusal.TheVariants as of_module
 use Rattle.report_text.specs.declared.refusal.QueryRefusal.{QueryRefusal}
 use Rattle.report_text.specs.declared.refusal.QueryRefusal.TheVariants as of_query
 use Rattle.report_text.specs.Texts.{refusal_line}
+use Rattle.wasm_types.specs.declared.module.Module.{Module}
+use Rattle.wasm_types.specs.Spaces.{func_types, import_count}
 use Rattle.wasm_decode.specs.declared.refusal.DecodeEnd.{DecodeEnd}
 use Rattle.wasm_decode.specs.declared.refusal.DecodeEnd.TheVariants as decode
 use Rattle.wasm_validate.specs.declared.refusal.AdmitEnd.{AdmitEnd}
@@ -22,7 +25,16 @@ pub record Answer : Type 0 where
 
 -- one line on err, and nothing on out
 abbrev pub refused : Refusal → Answer
-refused refusal = record { status = refusal_status refusal; out = []; err = refusal_line refusal }
+refused why = record { status = refusal_status why; out = []; err = refusal_line why }
+
+-- the answer, unless the query is refused
+abbrev pub unless_refused : Option QueryRefusal → Answer → Answer
+unless_refused None answer = answer
+unless_refused (Some why) answer = refused (refusal.Query why)
+
+-- why nothing can be told of the code of function f: there is no such function, or it is imported
+abbrev pub why_no_code : Module → ℕ → Option QueryRefusal
+why_no_code m f = if nat_lt f (import_count m) then Some (of_query.Imported f) else if nat_lt f (length (func_types m)) then None else Some (of_query.NoFunction f)
 
 -- A cause holds that has a refusal, and the answer is that refusal, as one of a class. A cause without a refusal is that an allocation was refused.
 abbrev pub IsRefused : {Cause Why : Type 0} → (Why → Refusal) → (Cause → Type 0) → (Cause → Option Why) → Answer → Type 0

@@ -3,7 +3,7 @@ use Rattle.std.specs.Prelude.{ℕ, ◌+◌, ◌-◌, ◌*◌, ◌^◌, List, [],
 use Rattle.std.specs.Str.{bytes_eq}
 use Rattle.std.specs.declared.option.Option.{Option}
 use Rattle.wassail_top.specs.Orders.{Order, most_name_bytes}
-use Rattle.wassail_top.specs.Orders.Order.{check, rewrite, slice}
+use Rattle.wassail_top.specs.Orders.Order.{check, rewrite, list, slice}
 
 -- the value of digits after others whose value is n, where it stays below 2^32
 abbrev pub value_from : ℕ → List ℕ → Option ℕ
@@ -19,6 +19,11 @@ abbrev pub alone : Order → List (List ℕ) → Option Order
 alone order [] = Some order
 alone order (word ∷ words) = None
 
+-- the command of a number
+abbrev pub one : (ℕ → Order) → List (List ℕ) → Option Order
+one order (a ∷ []) = option_and_then (λ n. Some (order n)) (number_of a)
+one order words = None
+
 -- the command of two numbers and a name
 abbrev pub two_and_name : (ℕ → ℕ → List ℕ → Order) → List (List ℕ) → Option Order
 two_and_name order (a ∷ b ∷ name ∷ []) =
@@ -30,6 +35,7 @@ abbrev pub order_named : List ℕ → List (List ℕ) → Option Order
 order_named name rest =
     if bytes_eq name (codes "check") then alone check rest
     else if bytes_eq name (codes "rewrite") then alone rewrite rest
+    else if bytes_eq name (codes "list") then one list rest
     else if bytes_eq name (codes "slice") then two_and_name slice rest
     else None
 

@@ -6,19 +6,23 @@ ghost use Rattle.wasm_types.specs.Canon.{canon};
 ghost use Rattle.wasm_types.specs.Subset.{NestsAtMost, most_nesting};
 ghost use Rattle.wasm_types.specs.WellFormed.{IsWellFormed};
 ghost use Rattle.wasm_validate.specs.Admission.{IsAdmitted};
-ghost use Rattle.wassail_top.specs.Answers.{IsDue, IsDueTo, AnswersAdmitted, AnswersBytes, AnswersFlat, AnswersModule, AnswersSlice, most_bytes, slice_answer};
+ghost use Rattle.report_text.specs.Listing.{listing};
+ghost use Rattle.wassail_top.specs.Answers.{bytes_alone, IsDue, IsDueTo, AnswersAdmitted, AnswersBytes, AnswersFlat, AnswersModule, AnswersSlice, most_bytes, slice_answer};
 ghost use Rattle.slice_whole.specs.Flat.{IsFlat};
 ghost use Rattle.wassail_top.specs.Orders.{HasShortName, most_name_bytes, order_read};
-ghost use Rattle.wassail_top.specs.Refusals.{refused};
+ghost use Rattle.wassail_top.specs.Refusals.{refused, unless_refused, why_no_code};
 ghost use Rattle.wassail_top.specs.Reply.{reply_answer};
 ghost use Rattle.wassail_top.specs.Words.{order_of};
 
-use crate::refusals::{admit_refusal, decode_refusal, slice_refusal};
+use crate::refusals::{admit_refusal, code_refusal, decode_refusal, slice_refusal};
 use crate::status::Status;
 use crate::words::{Command, WordsEnd, parse_words};
 use outside_io::{ReadEnd, Source, read_all};
-use report_text::{ModuleRefusal, QueryRefusal, Refusal, refusal_text, slice_text, valid_text};
+use report_text::{
+    ModuleRefusal, QueryRefusal, Refusal, list_text, refusal_text, slice_text, valid_text,
+};
 use slice_whole::{Sliced, is_flat, slice};
+use stack_names::names;
 use std::alloc::Global;
 use wasm_decode::decode;
 use wasm_encode::encode;
@@ -116,8 +120,25 @@ fn answer_admitted(alloc: Global, command: &Command, valid: ValidModule) -> Resu
             out: encode(alloc, valid.module())?,
             err: Vec::new(alloc),
         }),
+        Command::List { func } => answer_list(alloc, &valid, *func),
         Command::Slice { func, at, name } => answer_slice(alloc, valid, *func, *at, name.as_str()),
     }
+}
+
+// What `list` answers about an admitted module.
+fn answer_list(alloc: Global, valid: &ValidModule, func: u32) -> Result<Reply, NoMemory>
+    requires admitted { IsAdmitted valid.now }
+    ensures { IfOk result (λ reply. reply_answer reply ≡ unless_refused (why_no_code valid.now func) (bytes_alone (listing valid.now func))) }
+{
+    if let Some(cause) = code_refusal(valid.module(), func) {
+        return refuse(alloc, Refusal::Query(cause));
+    }
+    let names = names(alloc, valid, func)?;
+    Ok(Reply {
+        status: Status::Answered,
+        out: list_text(alloc, valid, func, &names)?,
+        err: Vec::new(alloc),
+    })
 }
 
 // What `slice` answers about an admitted module.

@@ -1,6 +1,6 @@
 //! The call that does all that the program does.
 
-ghost use Rattle.std.specs.Prelude.{All, ◌≡◌, ◌≢◌, ◌⊎◌, ◌≤◌, ◌∷◌, ℕ, List, [], None, Some, map, length, codes};
+ghost use Rattle.std.specs.Prelude.{All, ◌≡◌, ◌≢◌, ◌⊎◌, ◌≤◌, ℕ, List, None, Some, map, length};
 ghost use Rattle.std.specs.String.{string_bytes};
 ghost use Rattle.std.specs.declared.option.Option.{Option};
 ghost use Rattle.std.specs.Io.KnownBytes.{Keeps};
@@ -10,13 +10,12 @@ ghost use Rattle.wasm_types.specs.Modules.{Spells};
 ghost use Rattle.wasm_types.specs.Subset.{InSubset};
 ghost use Rattle.wasm_types.specs.Validity.{IsValid};
 ghost use Rattle.wasm_types.specs.WellFormed.{IsU8};
-ghost use Rattle.wassail_top.specs.Answers.{Answers, HasAnswer, IsText, most_bytes};
-ghost use Rattle.slice_whole.specs.Flat.{IsFlat};
+ghost use Rattle.wassail_top.specs.Answers.{Answers, HasAnswer, IsTaken, IsText, most_bytes};
 ghost use Rattle.wassail_top.specs.Headline.{SliceHolds};
+ghost use Rattle.wassail_top.specs.Orders.{Order};
 ghost use Rattle.wassail_top.specs.Orders.Order.{slice};
 ghost use Rattle.wassail_top.specs.Outcome.{Answered, ReadFailed, WriteFailed};
-ghost use Rattle.wassail_top.specs.Refusals.{Answer, HasNoRefusal, why_not_sliced};
-ghost use Rattle.slice_whole.specs.Slices.{Refuses};
+ghost use Rattle.wassail_top.specs.Refusals.{Answer};
 ghost use Rattle.wassail_top.specs.Words.{order_of};
 
 use crate::deliver::deliver;
@@ -64,17 +63,10 @@ pub fn wassail<S: Source, O: Sink, E: Sink>(
         → ¬ Rose (E.faults err.old) (E.faults err.new) → (result ≡ 5) ⊎ Answered (map string_bytes words.now)
         (S.left source.old) (S.left source.new) (O.held out.old) (O.held out.new) (E.held err.old) (E.held err.new) result }
 
-    // So the word `check` or `rewrite`, a valid module of the subset that isn't too long, and no fault give status 0, unless an allocation is refused.
-    ensures valid_succeeds { (bytes : List ℕ) (m : Module)
-        → (map string_bytes words.now ≡ codes "check" ∷ []) ⊎ (map string_bytes words.now ≡ codes "rewrite" ∷ [])
-        → S.left source.old ≡ Some bytes → length bytes ≤ most_bytes → Spells bytes m → IsValid m → InSubset m
-        → ¬ Rose (S.faults source.old) (S.faults source.new) → ¬ Rose (O.faults out.old) (O.faults out.new)
-        → ¬ Rose (E.faults err.old) (E.faults err.new) → (result ≡ 0) ⊎ (result ≡ 5) }
-
-    // And the words of a slice, a flat module that isn't too long and for which no refusal of the slice holds, and no fault.
-    ensures slice_succeeds { (bytes : List ℕ) (m : Module) (func at : ℕ) (name : List ℕ)
-        → order_of (map string_bytes words.now) ≡ Some (slice func at name)
-        → S.left source.old ≡ Some bytes → length bytes ≤ most_bytes → Spells bytes m → IsFlat m → HasNoRefusal (Refuses m func at name) (why_not_sliced func at)
+    // So the words of a command, a valid module of the subset that isn't too long and about which the query isn't refused, and no fault give status 0,
+    // unless an allocation is refused.
+    ensures succeeds { (order : Order) (bytes : List ℕ) (m : Module) → order_of (map string_bytes words.now) ≡ Some order
+        → S.left source.old ≡ Some bytes → length bytes ≤ most_bytes → Spells bytes m → IsValid m → InSubset m → IsTaken order m
         → ¬ Rose (S.faults source.old) (S.faults source.new) → ¬ Rose (O.faults out.old) (O.faults out.new)
         → ¬ Rose (E.faults err.old) (E.faults err.new) → (result ≡ 0) ⊎ (result ≡ 5) }
 

@@ -3,9 +3,9 @@
 ghost use Rattle.std.specs.Prelude.{◌≡◌, map, IfOk};
 ghost use Rattle.std.specs.String.{string_bytes};
 ghost use Rattle.wassail_top.specs.Orders.{order_read, HasShortName};
-ghost use Rattle.wassail_top.specs.Orders.Order.{slice};
+ghost use Rattle.wassail_top.specs.Orders.Order.{list, slice};
 ghost use Rattle.wassail_top.specs.Parses.{Parses};
-ghost use Rattle.wassail_top.specs.Words.{alone, number_of, order_of, two_and_name};
+ghost use Rattle.wassail_top.specs.Words.{alone, number_of, one, order_of, two_and_name};
 
 use thiserror::Error;
 use wasm_types::MOST_NAME_BYTES;
@@ -17,6 +17,8 @@ pub enum Command {
     Check,
     /// Write the module in its canonical spelling.
     Rewrite,
+    /// Print the code of function `func`.
+    List { func: u32 },
     /// Write the module with a slice of function `func` at position `at` appended, exported as `name`.
     Slice { func: u32, at: u32, name: String },
 }
@@ -43,6 +45,7 @@ pub fn parse_words(words: &[String]) -> Result<Command, WordsEnd>
     match name.as_str() {
         "check" => parse_alone(Command::Check, rest),
         "rewrite" => parse_alone(Command::Rewrite, rest),
+        "list" => parse_list(rest),
         "slice" => parse_slice(rest),
         _ => Err(WordsEnd::Refused),
     }
@@ -59,6 +62,18 @@ fn parse_alone(command: Command, rest: &[String]) -> Result<Command, WordsEnd>
     } else {
         Err(WordsEnd::Refused)
     }
+}
+
+// One number.
+fn parse_list(rest: &[String]) -> Result<Command, WordsEnd>
+    ensures parses { Parses (one list (map string_bytes rest.now)) result }
+    ensures short { IfOk result (λ command. HasShortName (order_read command)) }
+{
+    let [func] = rest else {
+        return Err(WordsEnd::Refused);
+    };
+    let func = number_word(func).ok_or(WordsEnd::Refused)?;
+    Ok(Command::List { func })
 }
 
 // Two numbers and a name.

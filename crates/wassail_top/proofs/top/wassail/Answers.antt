@@ -3,9 +3,7 @@ use Rattle.std.specs.String.{string_bytes}
 use Rattle.wasm_validate.specs.Admission.{IsAdmitted}
 use Rattle.wassail_top.specs.Reply.{reply_answer}
 use Rattle.wassail_top.proofs.Calm.{read_failed, refused_words, only_refused_words}
-use Rattle.wassail_top.proofs.Complete.{succeeds, slice_succeeds}
-use Rattle.slice_whole.proofs.FlatInteger.{flat_nests}
-use Rattle.wassail_top.proofs.FlatAdmitted.{flat_admitted}
+use Rattle.wassail_top.proofs.Complete.{succeeds}
 use Rattle.wassail_top.proofs.HeadlineLemmas.{headline}
 use Rattle.wassail_top.proofs.top.wassail.Goals as goal
 
@@ -23,19 +21,12 @@ returns-in-Ok-deliver-clause-words_only g c =
     λ two. only_refused_words (map string_bytes c.args.words.now) _ _ _ _ (reply_answer c.in-Ok.reply) c.in-Ok.ensures.due
     (sym c.code-in-Ok-deliver.ensures ∙ two)
 
-pub returns-in-Ok-deliver-clause-valid_succeeds : goal.returns-in-Ok-deliver-clause-valid_succeeds
-returns-in-Ok-deliver-clause-valid_succeeds g c =
-    λ bytes m words left short spells valid subset quiet _ _.
+pub returns-in-Ok-deliver-clause-succeeds : goal.returns-in-Ok-deliver-clause-succeeds
+returns-in-Ok-deliver-clause-succeeds g c =
+    λ order bytes m named left short spells valid subset taken quiet _ _.
     let admitted : IsAdmitted m = record { valid = valid; no_float = subset.no_float; limits = subset.limits } in
-    inl (c.code-in-Ok-deliver.ensures ∙ succeeds _ bytes m _ _ _ _ (reply_answer c.in-Ok.reply) words left short
-    (spells, subset.nesting) admitted quiet c.in-Ok.ensures.due)
-
-pub returns-in-Ok-deliver-clause-slice_succeeds : goal.returns-in-Ok-deliver-clause-slice_succeeds
-returns-in-Ok-deliver-clause-slice_succeeds g c =
-    λ bytes m func at name order left short spells flat none quiet _ _.
-    inl (c.code-in-Ok-deliver.ensures
-    ∙ slice_succeeds (map string_bytes c.args.words.now) func at name bytes m _ _ _ _ (reply_answer c.in-Ok.reply) order left short
-    (spells, flat_nests m flat) (flat_admitted m flat) flat none quiet c.in-Ok.ensures.due)
+    inl (c.code-in-Ok-deliver.ensures ∙ succeeds (map string_bytes c.args.words.now) order bytes m _ _ _ _ (reply_answer c.in-Ok.reply) named left short
+    (spells, subset.nesting) admitted taken quiet c.in-Ok.ensures.due)
 
 pub returns-in-Ok-deliver-clause-slices : goal.returns-in-Ok-deliver-clause-slices
 returns-in-Ok-deliver-clause-slices g c =
