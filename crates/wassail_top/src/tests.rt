@@ -423,3 +423,37 @@ fn refuses_one_block_too_deep(rt: HostRuntime) -> Result<(), Fail> {
     assert_eq!(rt; got, checked(&rt, line)?);
     Ok(())
 }
+
+// A function that calls itself in one arm of an if, one with an instruction after a return, and an imported one.
+#[test]
+fn lists_functions(rt: HostRuntime) -> Result<(), Fail> {
+    let recursive =
+        b"\0asm\x01\0\0\0\x01\x06\x01\x60\x01\x7F\x01\x7F\x03\x02\x01\x00\x0A\x16\x01\x14\x00\x20\x00\x04\x7F\x20\x00\x41\x01\x6B\x10\x00\x05\x41\x00\x0B\x41\x01\x6A\x0B";
+    let text =
+        "0 local.get 0\n1 if i32 <- 0\n2   local.get 0\n3   i32.const 1\n4   i32.sub <- 2 3\n5   call 0 <- 4\n. else <- 5\n6   i32.const 0\n. end <- 6\n7 i32.const 1\n8 i32.add <- j1 7\n. end <- 8\n";
+    let got = end(&rt, &["list", "0"], recursive, NEVER, NEVER)?;
+    assert_eq!(rt; got, expected(&rt, 0, 0, text.as_bytes(), "")?);
+    let returning =
+        b"\0asm\x01\0\0\0\x01\x05\x01\x60\x00\x01\x7F\x03\x02\x01\x00\x0A\x09\x01\x07\x00\x41\x01\x0F\x41\x02\x0B";
+    let text = "0 i32.const 1\n1 return <- 0\n2 i32.const 2 dead\n. end\n";
+    let got = end(&rt, &["list", "0"], returning, NEVER, NEVER)?;
+    assert_eq!(rt; got, expected(&rt, 0, 0, text.as_bytes(), "")?);
+    let imported = b"\0asm\x01\0\0\0\x01\x04\x01\x60\x00\x00\x02\x07\x01\x01\x65\x01\x68\x00\x00";
+    let got = end(&rt, &["list", "0"], imported, NEVER, NEVER)?;
+    assert_eq!(rt;
+        got,
+        expected(
+            &rt,
+            6,
+            0,
+            b"",
+            "wassail: query refused: function 0 is imported\n"
+        )?
+    );
+    let got = end(&rt, &["list", "1"], imported, NEVER, NEVER)?;
+    assert_eq!(rt;
+        got,
+        expected(&rt, 6, 0, b"", "wassail: query refused: no function 1\n")?
+    );
+    Ok(())
+}
