@@ -1,0 +1,5 @@
+pub mod Backwards
+pub mod Placing
+pub mod Writing
+pub mod Answering
+pub mod Keeping

@@ -1,0 +1,11 @@
+//! Which definitions of a location reach a point of a body.
+#![tactic(auto)]
+
+mod back;
+mod defs;
+mod kept;
+mod places;
+mod search;
+
+pub use kept::Reach;
+pub use search::reaching;
