@@ -4,6 +4,7 @@ pub mod Listing
 pub mod Gaining
 pub mod Spreading
 pub mod Pushing
+pub mod Rows
 pub mod Reaching
 pub mod Settling
 pub mod Stepping

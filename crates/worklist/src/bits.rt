@@ -1,4 +1,4 @@
-//! A table of bits in words, by row and label.
+//! Tables of labels by row, as bits in words.
 
 ghost use Rattle.std.specs.Prelude.{◌≡◌, ℕ, ◌+◌, ◌*◌, ◌/◌, ◌^◌, ◌<◌, ◌≤◌, ◌↔◌, IfOk, IsTrue, length, vec_len, sum, false, slice_index, slice_set, bit_or};
 ghost use Rattle.worklist.specs.Bits.{HasBit, GainsBits};
@@ -6,11 +6,12 @@ ghost use Rattle.worklist.specs.Bits.{HasBit, GainsBits};
 use std::alloc::Global;
 use wasm_types::NoMemory;
 
-/// Words hold less than 64 bits each can say.
+/// It does nothing: what its clause says is known of any words.
 fn words_bound(words: &[u64])
     ensures { sum words.now ≤ length words.now * 2 ^ 64 }
 {}
 
+/// For each row a set of labels, in words of 64 bits. It takes 8 bytes for each 64 labels of a row, set or not.
 #[derive(Drop)]
 pub struct BitRows {
     rows: usize,
@@ -20,7 +21,7 @@ pub struct BitRows {
 }
 
 impl BitRows {
-    /// No bit is set.
+    /// So many rows, with no label, for at least so many labels. It fails only where memory is refused.
     pub fn new(alloc: Global, rows: usize, labels: usize) -> Result<BitRows, NoMemory>
         ensures rows { IfOk result (λ table. table.rows ≡ rows) }
         ensures words { IfOk result (λ table. labels ≤ table.words * 64) }
@@ -42,6 +43,7 @@ impl BitRows {
         words_bound(&self.bits);
     }
 
+    /// Where the word of a label stands.
     fn place(&self, row: usize, label: usize) -> usize
         requires row { row < self.now.rows }
         requires label { label < self.now.words * 64 }
@@ -51,6 +53,7 @@ impl BitRows {
         row * self.words + label / 64
     }
 
+    /// Whether a row has a label.
     pub fn has(&self, row: usize, label: usize) -> bool
         requires row { row < self.now.rows }
         requires label { label < self.now.words * 64 }
@@ -59,7 +62,7 @@ impl BitRows {
         (self.bits[self.place(row, label)] >> (label % 64)) & 1 == 1
     }
 
-    /// Sets the bits of a word in the word at a place; true where a bit was new.
+    /// Sets the bits of a word in the word at a place: true where one was new.
     fn raise(&mut self, place: usize, word: u64) -> bool
         requires { place < vec_len self.old.bits }
         ensures rows { self.new.rows ≡ self.old.rows }
@@ -74,7 +77,7 @@ impl BitRows {
         new != old
     }
 
-    /// Sets a bit; true where it is new.
+    /// Gives a row a label: true where it is new.
     pub fn insert(&mut self, row: usize, label: usize) -> bool
         requires row { row < self.old.rows }
         requires label { label < self.old.words * 64 }
@@ -88,7 +91,7 @@ impl BitRows {
         self.raise(place, 1u64 << (label % 64))
     }
 
-    /// Sets each bit of the row `from` in the row `into` too; true where a bit was new.
+    /// Gives the row `into` all labels of the row `from`: true where one was new.
     pub fn merge(&mut self, from: usize, into: usize) -> bool
         requires from { from < self.old.rows }
         requires into { into < self.old.rows }

@@ -20,6 +20,7 @@ pub struct Root {
     pub node: usize,
 }
 
+/// The labels so far, and the nodes that wait to give theirs on.
 #[derive(Drop)]
 struct Labelling {
     table: BitRows,
@@ -27,6 +28,7 @@ struct Labelling {
 }
 
 impl Labelling {
+    /// No node has a label.
     fn begin(alloc: Global, count: usize, labels: usize) -> Result<Labelling, NoMemory>
         ensures rows { IfOk result (λ search. search.table.rows ≡ count) }
         ensures words { IfOk result (λ search. labels ≤ search.table.words * 64) }
@@ -76,6 +78,7 @@ impl Labelling {
         Ok(())
     }
 
+    /// Gives each root its label.
     fn start_each(&mut self, roots: &[Root]) -> Result<(), NoMemory>
         requires roots { All (λ root. (root.label < self.old.table.words * 64) × (root.node < self.old.table.rows)) roots.now }
         requires ready { IsQueue self.old.table.rows self.old.queue.waits.items self.old.queue.nodes.items }
@@ -90,6 +93,7 @@ impl Labelling {
         Ok(())
     }
 
+    /// Gives the labels of a node to others.
     fn spread_each(&mut self, from: usize, nodes: &[usize]) -> Result<(), NoMemory>
         requires from { from < self.old.table.rows }
         requires nodes { All (λ node. node < self.old.table.rows) nodes.now }
@@ -106,7 +110,8 @@ impl Labelling {
     }
 }
 
-/// A row for each node: which labels have a root that leads to it, itself included.
+/// A row for each node: which labels have a root that leads to it, itself included. A node is expanded anew when its row has grown. It fails only where memory is
+/// refused.
 pub fn reach_labels<G: Graph>(
     alloc: Global,
     graph: &G,

@@ -4,6 +4,7 @@
 mod bits;
 mod graph;
 mod labels;
+mod list_graph;
 mod queue;
 mod rounds;
 mod search;
@@ -12,6 +13,7 @@ mod searcher;
 pub use bits::BitRows;
 pub use graph::Graph;
 pub use labels::{Root, reach_labels};
+pub use list_graph::ListGraph;
 pub use rounds::{Settles, settle};
 pub use search::reach;
 pub use searcher::Searcher;

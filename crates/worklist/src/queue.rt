@@ -7,6 +7,7 @@ ghost use Rattle.worklist.specs.Spreads.{IsQueue};
 use std::alloc::Global;
 use wasm_types::NoMemory;
 
+/// The nodes that wait, as a list, with a mark for each of them.
 #[derive(Drop)]
 pub(crate) struct Queue {
     waits: Vec<bool>,
@@ -14,6 +15,7 @@ pub(crate) struct Queue {
 }
 
 impl Queue {
+    /// None waits, of so many nodes.
     pub(crate) fn new(alloc: Global, count: usize) -> Result<Queue, NoMemory>
         ensures ready { IfOk result (λ queue. IsQueue count queue.waits.items queue.nodes.items) }
         ensures empty { IfOk result (λ queue. queue.nodes.items ≡ []) }
@@ -25,6 +27,7 @@ impl Queue {
         })
     }
 
+    /// Lets a node wait.
     pub(crate) fn put(&mut self, node: usize) -> Result<(), NoMemory>
         requires within { node < length self.old.waits.items }
         requires ready { IsQueue (length self.old.waits.items) self.old.waits.items self.old.nodes.items }
@@ -40,6 +43,7 @@ impl Queue {
         Ok(())
     }
 
+    /// Takes one that waits: none exactly where none waits.
     pub(crate) fn take(&mut self) -> Option<usize>
         requires { IsQueue (length self.old.waits.items) self.old.waits.items self.old.nodes.items }
         ensures ready { IsQueue (length self.old.waits.items) self.new.waits.items self.new.nodes.items }

@@ -20,10 +20,11 @@ pub trait Settles {
 
     ghost left: { Self → ℕ };
 
+    /// How many functions there are.
     fn func_count(&self) -> usize
         ensures { result ≡ func_count self.now };
 
-    /// Makes a function's rows anew; true where they have grown.
+    /// Makes a function's rows anew: true where they have grown. It fails only where memory is refused.
     fn update(&mut self, func: usize) -> Result<bool, NoMemory>
         requires within { func < func_count self.old }
         requires sound { sound self.old }
@@ -33,7 +34,7 @@ pub trait Settles {
         ensures others { IfOk result (λ grew. (f : ℕ) → full self.old f → (IsTrue grew → reads self.new f func → ⊥) → full self.new f) }
         ensures left { IfOk result (λ grew. left self.new + (if grew then 1 else 0) ≤ left self.old) };
 
-    /// Puts the functions whose rows are made from those of `func` at the end of `readers`.
+    /// Puts the functions whose rows are made from those of `func` at the end of `readers`. It fails only where memory is refused.
     fn push_readers(&self, func: usize, readers: &mut Vec<usize>) -> Result<(), NoMemory>
         requires { func < func_count self.now }
         ensures { IfOk result (λ _. Gains (λ f. (f < func_count self.now) × reads self.now f func) readers.old.items readers.new.items) };
@@ -109,7 +110,8 @@ fn pass<S: Settles>(
     Ok(grew)
 }
 
-/// Goes over the functions in order, callees best first, until no rows would grow.
+/// Goes over the functions in order, callees best first, until no rows would grow. It makes anew only those rows that are made from others which grew. It fails
+/// only where memory is refused.
 pub fn settle<S: Settles>(alloc: Global, table: &mut S, order: &[usize]) -> Result<(), NoMemory>
     requires order { All (λ f. f < S.func_count table.old) order.now }
     requires whole { (f : ℕ) → f < S.func_count table.old → Contains order.now f }

@@ -1,4 +1,4 @@
-use Rattle.std.proofs.Common.{rules, ◌≡◌, sym, ◌<◌, ◌++◌, ◌∷◌, [], get_or, length, false}
+use Rattle.std.proofs.Common.{rules, ◌≡◌, sym, ◌++◌, ◌∷◌, []}
 use Rattle.worklist.proofs.Meeting.{meets_fresh}
 use Rattle.worklist.proofs.Listing.{lists_more}
 use Rattle.worklist.proofs.search.Search.meet.Goals as goal
