@@ -1,9 +1,8 @@
 -- The sites of code against the lists that a walk finds.
-use Rattle.std.proofs.Common.{◌≡◌, ℕ, zero, suc, ◌+◌, ◌*◌, ◌<◌, ◌&&◌, Bool, true, false, List, [], ◌∷◌, ◌++◌, Option, Some, None, length, replicate, map, drop, refl, sym, ap, ap₂, ◌∙◌, subst, arith, length-append}
-use Rattle.std.specs.List.{flat_map, slice_get, slice_index_or}
-use Rattle.std.proofs.lemmas.List.{append-nil, append_assoc, replicate-append-replicate}
+use Rattle.std.proofs.Common.{◌≡◌, ℕ, zero, suc, ◌+◌, ◌&&◌, Bool, true, false, List, [], ◌∷◌, ◌++◌, Option, Some, None, replicate, map, drop, refl, sym, ap, ap₂, ◌∙◌, arith}
+use Rattle.std.specs.List.{flat_map}
+use Rattle.std.proofs.lemmas.List.{replicate-append-replicate}
 use Rattle.std.proofs.lemmas.List.Concat.{flat_map-append}
-use Rattle.wasm_types.specs.declared.module.ValType.{ValType}
 use Rattle.wasm_types.specs.declared.instr.Instr.{Instr}
 use Rattle.wasm_types.specs.declared.instr.Instr as instr
 use Rattle.wasm_types.specs.declared.place.Node.{Node}
@@ -14,7 +13,7 @@ use Rattle.wasm_types.specs.Actions.{Callees}
 use Rattle.wasm_types.specs.Nodes.{At, Join, named, made}
 use Rattle.wasm_types.specs.Labels.{arity, arities, outermost, Label, block_label, loop_label, point_of, first}
 use Rattle.wasm_types.specs.Sites.{Head, DoHead, BlockHead, LoopHead, IfHead, BrHead, BrIfHead, BrTableHead, ReturnHead, UnreachableHead, Site, Sites, sites}
-use Rattle.block_cfg.specs.Walk.{target_of, goes_of, goes_on, first_of, where_live, points_in, lists}
+use Rattle.block_cfg.specs.Walk.{target_of, goes_of, goes_on, first_of, lists}
 
 -- ---- marked code
 
@@ -103,7 +102,7 @@ shapes S = flat_map shape S
 
 -- ---- dead code
 
-abbrev dead : ℕ → Sites
+abbrev pub dead : ℕ → Sites
 dead n = replicate n None
 
 dead_add : (a b : ℕ) → shapes (dead a) ++ shapes (dead b) ≡ shapes (dead (a + b))
@@ -127,7 +126,7 @@ dead_lists labels k (repeat kind inner rest) p =
 dead_lists labels k (branch kind x y rest) p =
     let f = p + 1 + count x in let e = p + 1 + count x + count y in
     ap₂ (λ (a b : List (List Node)). [] ∷ [] ∷ (a ++ b)) (dead_lists (Join p ∷ labels) (Join p) x (p + 1))
-        (ap₂ (λ (a b : List (List Node)). a ++ b) (dead_lists (Join p ∷ labels) (Join p) y f) (dead_lists labels k rest e) ∙ dead_add (count y) (count rest))
+    (ap₂ (λ (a b : List (List Node)). a ++ b) (dead_lists (Join p ∷ labels) (Join p) y f) (dead_lists labels k rest e) ∙ dead_add (count y) (count rest))
     ∙ dead_more (count x) (count y + count rest) (1 + count x + count y + count rest) (omega arith)
 
 -- ---- the lists of code are those of its sites
@@ -141,7 +140,7 @@ after_transfer labels k w rest p = ap (λ n. shapes (dead n)) (size_marked w res
 leaf_shapes : (cs : Callees) (w : ℕ → Bool) (i : Instr) (rest : Code) (ctx : List Label) (k : Node) (p : ℕ) (names : List Node) → IsRooted ctx
     → ((ns : List Node) → shapes (sites cs ctx k (marked w (p + 1) rest) (p + 1) ns) ≡ lists true (points_of ctx) k rest (p + 1))
     → shapes (sites cs ctx k (plain (w p) i (marked w (p + 1) rest)) p names)
-      ≡ goes_of (points_of ctx) i (first_of (p + 1) rest k) ∷ [] ∷ lists (goes_on i && true) (points_of ctx) k rest (p + 1)
+    ≡ goes_of (points_of ctx) i (first_of (p + 1) rest k) ∷ [] ∷ lists (goes_on i && true) (points_of ctx) k rest (p + 1)
 leaf_shapes cs w (instr.Br l) rest ctx k p names r ih =
     heads _ _ _ _ _ _ (ap (λ (n : Node). n ∷ []) (point_target ctx l)) refl (after_transfer (points_of ctx) k w rest (p + 1))
 leaf_shapes cs w (instr.BrIf l) rest ctx k p names r ih =
@@ -175,16 +174,16 @@ sites_shapes cs w (block kind inner rest) ctx k p names r =
     let same : e ≡ e' = omega (arith, size_marked w inner (p + 1)) in
     let L = block_label p (arity kind) e in
     heads _ _ _ _ _ _ (ap (λ (n : Node). n ∷ []) (first_marked w inner (p + 1) (Join p))) (ap (λ (n : Node). n ∷ []) (rest_first w rest k e e' same))
-        (both_shapes _ _ _ _ (sites_shapes cs w inner (L ∷ ctx) (Join p) (p + 1) [] (rooted_more L ctx r))
-            (rest_shapes cs w rest ctx k (points_of ctx) e e' (named (arity kind) (Join p) names) same (sites_shapes cs w rest ctx k e' (named (arity kind) (Join p) names) r)))
+    (both_shapes _ _ _ _ (sites_shapes cs w inner (L ∷ ctx) (Join p) (p + 1) [] (rooted_more L ctx r))
+    (rest_shapes cs w rest ctx k (points_of ctx) e e' (named (arity kind) (Join p) names) same (sites_shapes cs w rest ctx k e' (named (arity kind) (Join p) names) r)))
 sites_shapes cs w (repeat kind inner rest) ctx k p names r =
     let e = p + 1 + size (marked w (p + 1) inner) in
     let e' = p + 1 + count inner in
     let same : e ≡ e' = omega (arith, size_marked w inner (p + 1)) in
     let L = loop_label p e in
     heads _ _ _ _ _ _ (ap (λ (n : Node). n ∷ []) (first_marked w inner (p + 1) (Join p))) (ap (λ (n : Node). n ∷ []) (rest_first w rest k e e' same))
-        (both_shapes _ _ _ _ (sites_shapes cs w inner (L ∷ ctx) (Join p) (p + 1) [] (rooted_more L ctx r))
-            (rest_shapes cs w rest ctx k (points_of ctx) e e' (named (arity kind) (Join p) names) same (sites_shapes cs w rest ctx k e' (named (arity kind) (Join p) names) r)))
+    (both_shapes _ _ _ _ (sites_shapes cs w inner (L ∷ ctx) (Join p) (p + 1) [] (rooted_more L ctx r))
+    (rest_shapes cs w rest ctx k (points_of ctx) e e' (named (arity kind) (Join p) names) same (sites_shapes cs w rest ctx k e' (named (arity kind) (Join p) names) r)))
 sites_shapes cs w (branch kind x y rest) ctx k p names r =
     let x' = marked w (p + 1) x in
     let y' = marked w (p + 1 + count x) y in
@@ -197,6 +196,6 @@ sites_shapes cs w (branch kind x y rest) ctx k p names r =
     let L = block_label p (arity kind) e in
     let after = named (arity kind) (Join p) (drop 1 names) in
     heads _ _ _ _ _ _ (ap₂ (λ (m n : Node). m ∷ n ∷ []) (first_marked w x (p + 1) (Join p)) (rest_first w y (Join p) f f' same_f)) (ap (λ (n : Node). n ∷ []) (rest_first w rest k e e' same))
-        (both_shapes _ _ _ _ (sites_shapes cs w x (L ∷ ctx) (Join p) (p + 1) [] (rooted_more L ctx r))
-            (both_shapes _ _ _ _ (rest_shapes cs w y (L ∷ ctx) (Join p) (Join p ∷ points_of ctx) f f' [] same_f (sites_shapes cs w y (L ∷ ctx) (Join p) f' [] (rooted_more L ctx r)))
-                (rest_shapes cs w rest ctx k (points_of ctx) e e' after same (sites_shapes cs w rest ctx k e' after r))))
+    (both_shapes _ _ _ _ (sites_shapes cs w x (L ∷ ctx) (Join p) (p + 1) [] (rooted_more L ctx r))
+    (both_shapes _ _ _ _ (rest_shapes cs w y (L ∷ ctx) (Join p) (Join p ∷ points_of ctx) f f' [] same_f (sites_shapes cs w y (L ∷ ctx) (Join p) f' [] (rooted_more L ctx r)))
+    (rest_shapes cs w rest ctx k (points_of ctx) e e' after same (sites_shapes cs w rest ctx k e' after r))))

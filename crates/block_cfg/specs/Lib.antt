@@ -1,3 +1,4 @@
 pub mod Graph
-pub mod Points
 pub mod Walk
+pub mod Points
+pub mod Law

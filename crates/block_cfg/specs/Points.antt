@@ -1,5 +1,5 @@
 -- The graph of a body: its points, and where they lead (docs/ANALYSES.md, "Points").
-use Rattle.std.specs.Prelude.{◌≡◌, ◌≤◌, ◌↔◌, ℕ, ◌+◌, ◌*◌, Bool, List, length, Some, slice_get}
+use Rattle.std.specs.Prelude.{◌≡◌, ◌≤◌, ◌↔◌, ℕ, Bool, Some, slice_get}
 use Rattle.std.specs.List.{Contains}
 use Rattle.wasm_types.specs.declared.module.Body.{Body}
 use Rattle.wasm_types.specs.declared.place.Node.{Node}

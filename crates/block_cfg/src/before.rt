@@ -1,6 +1,6 @@
 //! The lists of points turned round.
 
-ghost use Rattle.std.specs.Prelude.{◌≡◌, ◌↔◌, ◌^◌, ◌<◌, ◌≤◌, ◌⊎◌, All, Contains, IfOk, length, replicate, []};
+ghost use Rattle.std.specs.Prelude.{◌≡◌, ◌↔◌, ◌^◌, ◌<◌, ◌≤◌, ◌⊎◌, Contains, IfOk, length, replicate, []};
 ghost use Rattle.wasm_types.specs.declared.place.Node.{Node};
 ghost use Rattle.block_cfg.specs.Graph.{EachOnce, number, row_of};
 
@@ -22,12 +22,12 @@ fn empty_lists(alloc: Global, count: usize) -> Result<Vec<Items<Point>>, NoMemor
 
 /// Puts a point on the list of each point of a row.
 fn add_before(before: &mut Vec<Items<Point>>, from: Point, row: &[Point]) -> Result<(), NoMemory>
-    requires within { All (λ point. number point < length before.old.items) row.now }
+    requires within { (b : Node) → Contains row.now b → number b < length before.old.items }
     requires row { EachOnce row.now }
-    requires once { All EachOnce before.old.items }
-    requires new { All (λ list. Contains list from → ⊥) before.old.items }
+    requires once { (b : Node) → EachOnce (row_of before.old.items b) }
+    requires new { (b : Node) → Contains (row_of before.old.items b) from → ⊥ }
     ensures same { IfOk result (λ _. length before.new.items ≡ length before.old.items) }
-    ensures once { IfOk result (λ _. All EachOnce before.new.items) }
+    ensures once { IfOk result (λ _. (b : Node) → EachOnce (row_of before.new.items b)) }
     ensures exact { IfOk result (λ _. (a b : Node) → Contains (row_of before.new.items b) a ↔ (Contains (row_of before.old.items b) a ⊎ ((a ≡ from) × Contains row.now b))) }
 {
     for to in row {
@@ -39,15 +39,19 @@ fn add_before(before: &mut Vec<Items<Point>>, from: Point, row: &[Point]) -> Res
 /// For each point those in whose lists it is.
 pub(crate) fn turned(alloc: Global, next: &[Items<Point>]) -> Result<Vec<Items<Point>>, NoMemory>
     requires few { length next.now < 2 ^ 33 }
-    requires within { All (λ row. All (λ point. number point < length next.now) row) next.now }
-    requires once { All EachOnce next.now }
+    requires within { (a b : Node) → Contains (row_of next.now a) b → number b < length next.now }
+    requires once { (a : Node) → EachOnce (row_of next.now a) }
     ensures same { IfOk result (λ before. length before.items ≡ length next.now) }
-    ensures once { IfOk result (λ before. All EachOnce before.items) }
+    ensures once { IfOk result (λ before. (b : Node) → EachOnce (row_of before.items b)) }
     ensures exact { IfOk result (λ before. (a b : Node) → Contains (row_of before.items b) a ↔ Contains (row_of next.now a) b) }
 {
     let mut before = empty_lists(alloc, next.len())?;
     for number in 0..next.len() {
-        add_before(&mut before, point_of_number(number), next[number].as_slice())?;
+        add_before(
+            &mut before,
+            point_of_number(number),
+            next[number].as_slice(),
+        )?;
     }
     Ok(before)
 }

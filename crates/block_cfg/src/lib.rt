@@ -4,8 +4,10 @@
 mod before;
 mod body;
 mod cfg;
+mod laws;
 mod targets;
 mod walk;
 
 pub use body::edges;
 pub use cfg::{Cfg, point_number, point_of_number};
+pub use laws::law_bodies_have_points;

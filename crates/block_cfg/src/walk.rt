@@ -21,13 +21,13 @@ pub(crate) struct Found {
     pub(crate) next: Vec<Items<Point>>,
 }
 
-/// Whether what follows an instruction in its sequence can be live.
-fn goes_on(instr: &Instr) -> bool
-    ensures { result ≡ goes_on instr.now }
+/// Whether what follows an instruction in its sequence is live, where `live` says whether the instruction is.
+fn stays_live(instr: &Instr, live: bool) -> bool
+    ensures { result ≡ (goes_on instr.now && live) }
 {
     match instr {
         Instr::Br(_) | Instr::BrTable(_, _) | Instr::Return | Instr::Unreachable => false,
-        _ => true,
+        _ => live,
     }
 }
 
@@ -73,12 +73,7 @@ fn push_points(points: &mut Vec<Point>, at: u32, live: bool) -> Result<(), NoMem
 }
 
 /// Begins with a block, loop or if: its lists are empty so far. Its answer is where they stand.
-fn open_lists(
-    alloc: Global,
-    found: &mut Found,
-    at: u32,
-    live: bool,
-) -> Result<usize, NoMemory>
+fn open_lists(alloc: Global, found: &mut Found, at: u32, live: bool) -> Result<usize, NoMemory>
     ensures place { IfOk result (λ place. place ≡ length found.old.next.items) }
     ensures points { IfOk result (λ _. found.new.points.items ≡ found.old.points.items ++ where_live live (At at ∷ Join at ∷ [])) }
     ensures next { IfOk result (λ _. found.new.next.items ≡ found.old.next.items ++ [] ∷ [] ∷ []) }
@@ -111,6 +106,36 @@ fn close_lists(
     Ok(())
 }
 
+/// Puts a live position on the list of points.
+fn push_point(points: &mut Vec<Point>, at: u32, live: bool) -> Result<(), NoMemory>
+    ensures { IfOk result (λ _. points.new.items ≡ points.old.items ++ where_live live (At at ∷ [])) }
+{
+    if !live {
+        return Ok(());
+    }
+    points.push(Point::At(Pos(at))).map_err(|_| NoMemory)?;
+    Ok(())
+}
+
+/// Where an instruction that holds no others leads, if it is live.
+fn plain_row(
+    alloc: Global,
+    labels: &[Point],
+    instr: &Instr,
+    next: Point,
+    live: bool,
+) -> Result<Items<Point>, NoMemory>
+    requires labels { LabelsBelow (length labels.now) instr.now }
+    requires once { EachOnce labels.now }
+    ensures { IfOk result (λ row. SameOnce row (where_live live (goes_of (reverse labels.now) instr.now next))) }
+{
+    if !live {
+        return Ok(Items::new(alloc));
+    }
+    let row = targets(alloc, labels, instr, next)?;
+    Ok(row)
+}
+
 /// Goes past an instruction that holds no others.
 fn walk_plain(
     alloc: Global,
@@ -126,12 +151,8 @@ fn walk_plain(
     requires room { at + 1 < 2 ^ 32 }
     ensures { IfOk result (λ _. Finds found.old found.new (where_live live (At at ∷ [])) (where_live live (goes_of (reverse labels.now) instr.now (next_at last (at + 1))) ∷ [] ∷ [])) }
 {
-    let row = if live {
-        found.points.push(Point::At(Pos(at))).map_err(|_| NoMemory)?;
-        targets(alloc, labels, instr, next_point(last, at + 1))?
-    } else {
-        Items::new(alloc)
-    };
+    push_point(&mut found.points, at, live)?;
+    let row = plain_row(alloc, labels, instr, next_point(last, at + 1), live)?;
     found.next.push(row).map_err(|_| NoMemory)?;
     found.next.push(Items::new(alloc)).map_err(|_| NoMemory)?;
     Ok(())
@@ -158,22 +179,37 @@ fn walk_instr(
     match instr {
         Instr::Block(_, inner) => {
             let label = Point::Join(Pos(at));
-            walk_block(alloc, labels, found, label, inner.as_slice(), at, last, live)
+            let end = walk_block(
+                alloc,
+                labels,
+                found,
+                label,
+                inner.as_slice(),
+                at,
+                last,
+                live,
+            )?;
+            Ok(end)
         }
         Instr::Loop(_, inner) => {
             let label = Point::At(Pos(at));
-            walk_block(alloc, labels, found, label, inner.as_slice(), at, last, live)
+            let end = walk_block(
+                alloc,
+                labels,
+                found,
+                label,
+                inner.as_slice(),
+                at,
+                last,
+                live,
+            )?;
+            Ok(end)
         }
-        Instr::If(_, first, second) => walk_if(
-            alloc,
-            labels,
-            found,
-            first.as_slice(),
-            second.as_slice(),
-            at,
-            last,
-            live,
-        ),
+        Instr::If(_, first, second) => {
+            let (first, second) = (first.as_slice(), second.as_slice());
+            let end = walk_if(alloc, labels, found, first, second, at, last, live)?;
+            Ok(end)
+        }
         _ => {
             walk_plain(alloc, labels.as_slice(), found, instr, at, last, live)?;
             Ok(at + 1)
@@ -293,7 +329,7 @@ pub(crate) fn walk_code(
         left -= 1;
         let last = last_point(left, after);
         here = walk_instr(alloc, labels, found, instr, here, last, reached)?;
-        reached = goes_on(instr) && reached;
+        reached = stays_live(instr, reached);
     }
     Ok(here)
 }
