@@ -17,7 +17,7 @@ use Rattle.worklist.specs.Gains.{Gains}
 use Rattle.worklist.specs.Reached.{Reached}
 use Rattle.worklist.proofs.Reaching.{reached_more}
 use Rattle.def_use.specs.Answers.{rank, IsSorted, IsAnswer, defs_of}
-use Rattle.def_use.specs.Places.{point_at, place_of, IsPlaces, Before, GoesBack, IsWriter}
+use Rattle.def_use.specs.Places.{point_at, place_of, IsPlaces, AllRuns, Steps, GoesBack, IsWriter, AreWriters}
 use Rattle.def_use.proofs.Backwards.{means, Means, path_met, entry_met, earlier_is}
 
 -- ---- the list
@@ -83,26 +83,26 @@ sorted_defs false ps up = sorted_positions ps up
 
 -- ---- the answer
 
-written_there : (W : Table) (x : Loc) (p : ℕ) → Writes W x (At p) → W p x
-written_there W x p (writes_it w) = w
+none_there : (x : ℕ) → Contains [] x → ⊥
+none_there x (k, lt, is) = omega arith
 
 first_edge : (W : Table) (S : Sites) (x : Loc) (a q : Node) → Path W S x a q → (b : Node) × Leads S a b
 first_edge W S x a q (edge l) = (q, l)
 first_edge W S x a q (along b l free p) = (b, l)
 
-none_there : (x : ℕ) → Contains [] x → ⊥
-none_there x (k, lt, is) = omega arith
+written_there : (W : Table) (x : Loc) (p : ℕ) → Writes W x (At p) → W p x
+written_there W x p (writes_it w) = w
 
-module _ (g : Graph) (T : Rows) (x : Loc) (places : List ℕ) (placed : IsPlaces g places) (q : Node) (there : Contains g.points q) (none roots met : List ℕ) (empty : none ≡ []) (gains : Gains (Before g places (place_of places q)) none roots)
-    (exact : (y : ℕ) → Contains met y ↔ Reached (Contains roots) (GoesBack g T places x) y) where
-  met_is : (y : ℕ) → Contains met y → Reached (Before g places (place_of places q)) (GoesBack g T places x) y
+module _ (g : Graph) (T : Rows) (x : Loc) (places : List ℕ) (placed : IsPlaces g places) (heads : List ℕ) (runs : AllRuns g heads) (writers : List ℕ) (write : AreWriters T x writers) (q : Node) (there : Contains g.points q) (none roots met : List ℕ) (empty : none ≡ []) (gains : Gains (Steps g places heads writers (place_of places q)) none roots)
+    (exact : (y : ℕ) → Contains met y ↔ Reached (Contains roots) (GoesBack g T places heads writers x) y) where
+  met_is : (y : ℕ) → Contains met y → Reached (Steps g places heads writers (place_of places q)) (GoesBack g T places heads writers x) y
   met_is y h =
-      reached_more (Contains roots) (Before g places (place_of places q)) (GoesBack g T places x) (GoesBack g T places x)
+      reached_more (Contains roots) (Steps g places heads writers (place_of places q)) (GoesBack g T places heads writers x) (GoesBack g T places heads writers x)
       (λ z r. ⊎_elim (λ k. absurd (none_there z (rw empty at k))) (λ b. b) (gains.only z r)) (λ y z e. e) y ((exact y).0 h)
 
-  is_met : (y : ℕ) → Reached (Before g places (place_of places q)) (GoesBack g T places x) y → Contains met y
+  is_met : (y : ℕ) → Reached (Steps g places heads writers (place_of places q)) (GoesBack g T places heads writers x) y → Contains met y
   is_met y r =
-      (exact y).1 (reached_more (Before g places (place_of places q)) (Contains roots) (GoesBack g T places x) (GoesBack g T places x) (λ z b. gains.all z b) (λ y z e. e) y r)
+      (exact y).1 (reached_more (Steps g places heads writers (place_of places q)) (Contains roots) (GoesBack g T places heads writers x) (GoesBack g T places heads writers x) (λ z b. gains.all z b) (λ y z e. e) y r)
 
   module _ (entry : Bool) (entry_is : (entry ≡ true) ↔ Contains met (length g.points)) (positions : List ℕ) (up : AllPairs (λ a b. a < b) positions) (gathered : (p : ℕ) → Contains positions p ↔ ((k : ℕ) × (Contains met k × IsWriter g T x k p))) where
     module _ (S : Sites) (start : Node) (graph : IsGraphOf S start g) where
@@ -110,22 +110,23 @@ module _ (g : Graph) (T : Rows) (x : Loc) (places : List ℕ) (placed : IsPlaces
       unfolding Means
       reaches_of def.Entry h =
           let m : Contains met (length g.points) = entry_is.0 (entry_of entry positions h) in
-          ⊎_elim (λ (is, e). from_entry e) (λ (lt, p). absurd (omega arith)) (means S start g graph places placed T x q there (length g.points) (met_is (length g.points) m))
+          ⊎_elim (λ (is, e). from_entry e) (λ (lt, p). absurd (omega arith)) (means S start g graph places placed heads runs T x writers write q there (length g.points) (met_is (length g.points) m))
       reaches_of (def.At p) h =
           let w = (gathered p.0).0 (at_of entry positions p h) in
           ⊎_elim
           (λ (is, e). absurd (omega (arith, w.1.1.0)))
           (λ (lt, path). from_write (writes_it w.1.1.1.1) (subst (λ z. Path (WritesIn T) S x z q) w.1.1.1.0 path))
-          (means S start g graph places placed T x q there w.0 (met_is w.0 w.1.0))
+          (means S start g graph places placed heads runs T x writers write q there w.0 (met_is w.0 w.1.0))
 
       of_reaches : (d : Def) → Reaches (WritesIn T) S start x q d → Contains (defs_of entry positions) d
       of_reaches _ (from_entry e) =
-          has_entry entry positions (entry_is.1 (is_met (length g.points) (entry_met S start g graph places placed T x q there start refl e)))
+          has_entry entry positions (entry_is.1 (is_met (length g.points) (entry_met S start g graph places placed heads runs T x writers write q there start refl e)))
       of_reaches _ (from_write {d} w path) =
           let first = first_edge (WritesIn T) S x (At d) q path in
           let at = earlier_is S start g graph places placed (At d) first.0 first.1 in
+          let writes = written_there (WritesIn T) x d w in
           has_at entry positions (record { 0 = d })
-          ((gathered d).1 (place_of places (At d), (is_met (place_of places (At d)) (path_met S start g graph places placed T x q there (At d) path), (at.0, (at.1, written_there (WritesIn T) x d w)))))
+          ((gathered d).1 (place_of places (At d), (is_met (place_of places (At d)) (path_met S start g graph places placed heads runs T x writers write q there d writes path), (at.0, (at.1, writes)))))
 
     pub is_answer : (defs : List Def) → defs ≡ defs_of entry positions → IsAnswer g T x q defs
     is_answer defs e = record {

@@ -1,9 +1,9 @@
 -- Answers that are kept, one more among them.
 use Rattle.std.proofs.Common.{◌≡◌, ◌≢◌, ◌↔◌, ℕ, zero, suc, ◌+◌, ◌<◌, List, [], ◌∷◌, ◌++◌, Vec, Global, Some, None, length, get_or, set, refl, sym, ◌∙◌, ap, subst, inl, inr, ◌⊎◌, ⊎_elim, arith}
 use Rattle.std.specs.Prelude.{slice_get}
-use Rattle.std.specs.List.{Contains}
+use Rattle.std.specs.List.{All, Contains}
 use Rattle.std.proofs.lemmas.Bool.{cases_eq}
-use Rattle.std.proofs.lemmas.Option.{slice_get_read}
+use Rattle.std.proofs.lemmas.Option.{slice_get_read, slice_get_within, get_or_from_slice_get}
 use Rattle.std.proofs.lemmas.List.Elements.{Contains-push, Contains-push_cases, Contains-append_left}
 use Rattle.wasm_types.specs.declared.place.Loc.{Loc}
 use Rattle.wasm_types.specs.declared.place.Def.{Def}
@@ -13,6 +13,9 @@ use Rattle.flow_domain.specs.LocTables.{Rows}
 use Rattle.def_use.specs.declared.kept.Answer.{Answer}
 use Rattle.def_use.specs.Answers.{IsAnswer}
 use Rattle.def_use.specs.Places.{point_at}
+
+none_among : (a : Answer) → Contains [] a → ⊥
+none_among a (k, lt, is) = omega arith
 
 -- an answer is held at a place
 abbrev pub Held : List (Vec Answer Global) → ℕ → Answer → Type 0
@@ -96,3 +99,10 @@ right_more g T k k0 q one a at right e same =
 pub right_at : (g : Graph) (T : Rows) (k : ℕ) (q : Node) (a : Answer) (x : Loc) (defs : List Def) → point_at g.points k ≡ q → a.loc ≡ x → defs ≡ a.defs.items → IsAnswer g T a.loc (point_at g.points k) a.defs.items → IsAnswer g T x q defs
 right_at g T k q a x defs at same is right =
     rw is (subst (λ n. IsAnswer g T x n a.defs.items) at (subst (λ y. IsAnswer g T y (point_at g.points k) a.defs.items) same right))
+
+pub none_held : (known : List (Vec Answer Global)) → All (λ row. row.items ≡ []) known → (k : ℕ) (a : Answer) → Held known k a → ⊥
+none_held known none k a (row, (at, there)) =
+    let lt = slice_get_within known k row at in
+    let is : get_or known k row ≡ row = get_or_from_slice_get known k row row at in
+    let empty : row.items ≡ [] = subst (λ (r : Vec Answer Global). r.items ≡ []) is (none k row lt) in
+    none_among a (rw empty at there)

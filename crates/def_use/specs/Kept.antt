@@ -9,10 +9,11 @@ use Rattle.def_use.specs.declared.kept.Answer.{Answer}
 use Rattle.def_use.specs.declared.kept.Reach.{Reach}
 use Rattle.def_use.specs.Answers.{IsAnswer}
 use Rattle.def_use.specs.Places.{IsPlaces, point_at}
+use Rattle.def_use.specs.Tables.{AreTables}
 
 -- it is made for this graph
 pub record IsMadeFor (g : Graph) (r : Reach) : Type 0 where
-  pub places : IsPlaces g r.places.items
+  pub places : IsPlaces g r.tables.places.items
   pub size : r.searcher ≡ length g.points + 1
   pub rows : length r.known.items ≡ length g.points
 
@@ -24,6 +25,7 @@ HasAnswer r k a = (row : Vec Answer Global) × ((slice_get r.known.items k ≡ S
 abbrev pub IsKept : Reach → ℕ → Loc → Type 0
 IsKept r k x = (a : Answer) × (HasAnswer r k a × (a.loc ≡ x))
 
--- all that are kept are right
-abbrev pub AreRight : Graph → Rows → Reach → Type 0
-AreRight g T r = (k : ℕ) (a : Answer) → HasAnswer r k a → IsAnswer g T a.loc (point_at g.points k) a.defs.items
+-- it is made for this table of locations, and all answers that are kept are right
+pub record AreRight (g : Graph) (T : Rows) (r : Reach) : Type 0 where
+  pub tables : AreTables g T r.tables
+  pub answers : (k : ℕ) (a : Answer) → HasAnswer r k a → IsAnswer g T a.loc (point_at g.points k) a.defs.items

@@ -8,8 +8,9 @@ ghost use Rattle.def_use.specs.Answers.{IsAnswer, IsGraph};
 ghost use Rattle.def_use.specs.Kept.{AreRight, IsKept, IsMadeFor};
 ghost use Rattle.def_use.specs.Places as spec;
 
-use crate::places::{place_of, places_of};
+use crate::places::place_of;
 use crate::search::find;
+use crate::tables::Tables;
 use block_cfg::Cfg;
 use flow_domain::LocTable;
 use std::alloc::Global;
@@ -26,7 +27,7 @@ struct Answer {
 /// The answers that were found for the points of one body, to be asked again.
 #[derive(Drop)]
 pub struct Reach {
-    places: Vec<usize>,
+    tables: Tables,
     searcher: Searcher,
     /// By the place of the point.
     known: Vec<Vec<Answer>>,
@@ -57,12 +58,11 @@ impl Reach {
         ensures made { IfOk result (λ reach. IsMadeFor cfg.now reach) }
         ensures right { IfOk result (λ reach. AreRight cfg.now locs.now reach) }
     {
-        let _locs = locs;
-        let places = places_of(alloc, cfg)?;
+        let tables = Tables::new(alloc, cfg, locs)?;
         let searcher = Searcher::new(alloc, cfg.points().len() + 1)?;
         let known = no_answers(alloc, cfg.points().len())?;
         Ok(Reach {
-            places,
+            tables,
             searcher,
             known,
         })
@@ -74,9 +74,9 @@ impl Reach {
         requires graph { IsGraph cfg.now }
         requires point { Contains cfg.now.points point }
         ensures answer { IfSome result (λ defs. (T : Rows) → AreRight cfg.now T self.now → IsAnswer cfg.now T loc point defs.now) }
-        ensures there { IsSome result ↔ IsKept self.now (spec.place_of self.now.places.items point) loc }
+        ensures there { IsSome result ↔ IsKept self.now (spec.place_of self.now.tables.places.items point) loc }
     {
-        let place = place_of(&self.places, point);
+        let place = place_of(&self.tables.places, point);
         for answer in &self.known[place] {
             if is_same(answer.loc, loc) {
                 return Some(answer.defs.as_slice());
@@ -101,9 +101,9 @@ impl Reach {
         requires right { AreRight cfg.now locs.now self.old }
         ensures made { IsMadeFor cfg.now self.new }
         ensures right { AreRight cfg.now locs.now self.new }
-        ensures places { self.new.places ≡ self.old.places }
+        ensures tables { self.new.tables ≡ self.old.tables }
         ensures kept { (k : ℕ) (x : Loc) → IsKept self.old k x → IsKept self.new k x }
-        ensures there { IfOk result (λ _. IsKept self.new (spec.place_of self.new.places.items point) loc) }
+        ensures there { IfOk result (λ _. IsKept self.new (spec.place_of self.new.tables.places.items point) loc) }
     {
         if self.known(cfg, point, loc).is_some() {
             return Ok(());
@@ -113,11 +113,11 @@ impl Reach {
             &mut self.searcher,
             cfg,
             locs,
-            &self.places,
+            &self.tables,
             point,
             loc,
         )?;
-        let place = place_of(&self.places, point);
+        let place = place_of(&self.tables.places, point);
         self.known[place]
             .push(Answer { loc, defs })
             .map_err(|_| NoMemory)?;

@@ -5,7 +5,10 @@ mod back;
 mod defs;
 mod kept;
 mod places;
+mod runs;
 mod search;
+mod tables;
+mod writers;
 
 pub use kept::Reach;
 pub use search::reaching;

@@ -3,11 +3,12 @@
 ghost use Rattle.std.specs.Prelude.{◌≡◌, ◌+◌, IfOk, length};
 ghost use Rattle.std.specs.List.{Contains};
 ghost use Rattle.def_use.specs.Answers.{IsAnswer, IsGraph};
-ghost use Rattle.def_use.specs.Places.{IsPlaces};
+ghost use Rattle.def_use.specs.Tables.{AreTables};
 
 use crate::back::Back;
 use crate::defs::{definitions, in_order};
-use crate::places::{place_of, places_of};
+use crate::places::place_of;
+use crate::tables::Tables;
 use block_cfg::Cfg;
 use flow_domain::LocTable;
 use std::alloc::Global;
@@ -20,12 +21,12 @@ pub(crate) fn find(
     searcher: &mut Searcher,
     cfg: &Cfg,
     locs: &LocTable,
-    places: &[usize],
+    tables: &Tables,
     point: Point,
     loc: Loc,
 ) -> Result<Vec<Def>, NoMemory>
     requires graph { IsGraph cfg.now }
-    requires places { IsPlaces cfg.now places.now }
+    requires tables { AreTables cfg.now locs.now tables.now }
     requires size { searcher.old ≡ length cfg.now.points + 1 }
     requires point { Contains cfg.now.points point }
     ensures size { searcher.new ≡ searcher.old }
@@ -34,11 +35,13 @@ pub(crate) fn find(
     let back = Back {
         cfg,
         locs,
-        places,
+        places: &tables.places,
+        heads: &tables.heads,
+        writers: tables.writers.of(loc),
         loc,
     };
     let mut roots = Vec::new(alloc);
-    back.push_before(place_of(places, point), &mut roots)?;
+    back.push_steps(place_of(&tables.places, point), &mut roots)?;
     let met = searcher.reach(alloc, &back, &roots)?;
     let entry = met.contains(&cfg.points().len());
     let positions = in_order(alloc, &back, &met)?;
@@ -59,8 +62,8 @@ pub fn reaching(
     requires point { Contains cfg.now.points point }
     ensures { IfOk result (λ defs. IsAnswer cfg.now locs.now loc point defs.items) }
 {
-    let places = places_of(alloc, cfg)?;
+    let tables = Tables::new(alloc, cfg, locs)?;
     let mut searcher = Searcher::new(alloc, cfg.points().len() + 1)?;
-    let defs = find(alloc, &mut searcher, cfg, locs, &places, point, loc)?;
+    let defs = find(alloc, &mut searcher, cfg, locs, &tables, point, loc)?;
     Ok(defs)
 }

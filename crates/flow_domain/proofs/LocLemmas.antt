@@ -34,6 +34,10 @@ pub shown_push : (rows : List (Option (Vec LocUse Global))) (row : Option (Vec L
 shown_push [] row = refl
 shown_push (r ∷ rows) row = ap (λ (xs : List (Option (List LocUse))). shown_row r ∷ xs) (shown_push rows row)
 
+pub length_shown : (rows : List (Option (Vec LocUse Global))) → length (shown rows) ≡ length rows
+length_shown [] = refl
+length_shown (r ∷ rows) = ap suc (length_shown rows)
+
 pub shown_at : (rows : List (Option (Vec LocUse Global))) (p : ℕ) (d : Option (Vec LocUse Global)) → p < length rows → slice_get (shown rows) p ≡ Some (shown_row (get_or rows p d))
 shown_at [] p d lt = absurd (omega arith)
 shown_at (r ∷ rows) zero d lt = refl

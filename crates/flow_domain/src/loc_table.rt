@@ -1,6 +1,6 @@
 //! Tables of the locations that the positions of a body read, check and write.
 
-ghost use Rattle.std.specs.Prelude.{◌↔◌, IsTrue};
+ghost use Rattle.std.specs.Prelude.{◌≡◌, ◌↔◌, IsTrue, length};
 ghost use Rattle.flow_domain.specs.LocTables.{ChecksIn, IsRowAt, ReadsIn, WritesIn};
 
 use std::marker::Model;
@@ -33,11 +33,18 @@ impl Model for LocTable {
 }
 
 impl LocTable {
-    /// What a position uses: nothing also where it is dead, or no position of the body.
-    fn uses(&self, pos: Pos) -> &[LocUse]
-        ensures { IsRowAt self.now pos.0 result.now }
+    /// How many positions there are, dead ones included.
+    pub fn count(&self) -> usize
+        ensures { result ≡ length self.now }
     {
-        let Some(row) = self.rows.get(pos.0 as usize) else {
+        self.rows.len()
+    }
+
+    /// What the position of a number uses: nothing also where it is dead, or no position of the body.
+    pub fn uses(&self, at: usize) -> &[LocUse]
+        ensures { IsRowAt self.now at result.now }
+    {
+        let Some(row) = self.rows.get(at) else {
             return &[];
         };
         match row {
@@ -50,20 +57,20 @@ impl LocTable {
     pub fn reads(&self, pos: Pos, loc: Loc) -> bool
         ensures { IsTrue result ↔ ReadsIn self.now pos.0 loc }
     {
-        self.uses(pos).iter().any(|one| one.reads && one.loc == loc)
+        self.uses(pos.0 as usize).iter().any(|one| one.reads && one.loc == loc)
     }
 
     /// Whether a location decides if a position traps: false also where that is dead, or no position of the body.
     pub fn checks(&self, pos: Pos, loc: Loc) -> bool
         ensures { IsTrue result ↔ ChecksIn self.now pos.0 loc }
     {
-        self.uses(pos).iter().any(|one| one.checks && one.loc == loc)
+        self.uses(pos.0 as usize).iter().any(|one| one.checks && one.loc == loc)
     }
 
     /// Whether a position writes a location: false also where it is dead, or no position of the body.
     pub fn writes(&self, pos: Pos, loc: Loc) -> bool
         ensures { IsTrue result ↔ WritesIn self.now pos.0 loc }
     {
-        self.uses(pos).iter().any(|one| one.writes && one.loc == loc)
+        self.uses(pos.0 as usize).iter().any(|one| one.writes && one.loc == loc)
     }
 }

@@ -16,8 +16,8 @@ pub place_of-earlier_place-requires : goal.place_of-earlier_place-requires
 place_of-earlier_place-requires c =
     let g = c.args.self.now.cfg.now in
     let d : Node = node.At (record { 0 = 0 }) in
-    earlier_fits g c.args.self.now.places.now c.args.place c.before-earlier-items.result.now (get_or g.points c.args.place d) c.loop-earlier.earlier-index d
-    c.args.self.now.placed c.requires (rw c.points.ensures at c.before-earlier-items.ensures) (point_same g.points c.args.place d c.requires) c.loop-earlier-test.true
+    earlier_fits g c.args.self.now.places.now c.before-earlier-items.result.now (get_or g.points c.args.place d) c.loop-earlier.earlier-index d
+    c.args.self.now.placed (rw c.points.ensures at c.before-earlier-items.ensures) c.loop-earlier-test.true
 
 pub loop-earlier-preserved : goal.loop-earlier-preserved
 loop-earlier-preserved c =

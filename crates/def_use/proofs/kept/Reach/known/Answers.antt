@@ -12,7 +12,7 @@ use Rattle.def_use.proofs.kept.Reach.known.Goals as goal
 pub place_of-place-requires : goal.place_of-place-requires
 place_of-place-requires c =
     let graph = c.requires.graph in
-    rw c.deref.ensures.value (point_fits graph.0 graph.1.0 c.args.cfg.now graph.1.1 c.args.self.now.places.items c.requires.made.places c.args.point c.requires.point)
+    rw c.deref.ensures.value (point_fits graph.0 graph.1.0 c.args.cfg.now graph.1.1 c.args.self.now.tables.places.items c.requires.made.places c.args.point c.requires.point)
 
 pub loop-answer-preserved : goal.loop-answer-preserved
 loop-answer-preserved c = λ a h same.
@@ -32,19 +32,19 @@ pub returns-then-is_same-clause-answer : goal.returns-then-is_same-clause-answer
 returns-then-is_same-clause-answer c = λ T right.
     let graph = c.requires.graph in
     let g = c.args.cfg.now in
-    let at = place_is graph.0 graph.1.0 g graph.1.1 c.args.self.now.places.items c.requires.made.places c.args.point c.requires.point in
-    let place : c.place_of-place.result ≡ place_of c.args.self.now.places.items c.args.point = rw c.deref.ensures.value at c.place_of-place.ensures in
+    let at = place_is graph.0 graph.1.0 g graph.1.1 c.args.self.now.tables.places.items c.requires.made.places c.args.point c.requires.point in
+    let place : c.place_of-place.result ≡ place_of c.args.self.now.tables.places.items c.args.point = rw c.deref.ensures.value at c.place_of-place.ensures in
     let lt : c.place_of-place.result < length c.args.self.now.known.items = rw (place, c.requires.made.rows) at.0 in
     let held = held_here c.args.self.now.known.items c.place_of-place.result c.index.result.now c.deref-answer-items.result.now c.loop-answer.answer-index c.answer-item.result lt c.index.ensures c.deref-answer-items.ensures.value c.loop-answer-test.true c.answer-item.is in
     right_at g T c.place_of-place.result c.args.point c.answer-item.result c.args.loc c.as_slice.result.now (ap (point_at g.points) place ∙ at.1) (c.is_same.ensures.0 c.if-is_same.true) c.as_slice.ensures.value
-    (right c.place_of-place.result c.answer-item.result held)
+    (right.answers c.place_of-place.result c.answer-item.result held)
 
 pub returns-then-is_same-clause-there : goal.returns-then-is_same-clause-there
 returns-then-is_same-clause-there c =
     let graph = c.requires.graph in
     let g = c.args.cfg.now in
-    let at = place_is graph.0 graph.1.0 g graph.1.1 c.args.self.now.places.items c.requires.made.places c.args.point c.requires.point in
-    let place : c.place_of-place.result ≡ place_of c.args.self.now.places.items c.args.point = rw c.deref.ensures.value at c.place_of-place.ensures in
+    let at = place_is graph.0 graph.1.0 g graph.1.1 c.args.self.now.tables.places.items c.requires.made.places c.args.point c.requires.point in
+    let place : c.place_of-place.result ≡ place_of c.args.self.now.tables.places.items c.args.point = rw c.deref.ensures.value at c.place_of-place.ensures in
     let lt : c.place_of-place.result < length c.args.self.now.known.items = rw (place, c.requires.made.rows) at.0 in
     let held = held_here c.args.self.now.known.items c.place_of-place.result c.index.result.now c.deref-answer-items.result.now c.loop-answer.answer-index c.answer-item.result lt c.index.ensures c.deref-answer-items.ensures.value c.loop-answer-test.true c.answer-item.is in
     (λ t. (c.answer-item.result, (rw place at held, c.is_same.ensures.0 c.if-is_same.true)), λ k. refl)
@@ -54,8 +54,8 @@ returns-clause-there c =
     let graph = c.requires.graph in
     let g = c.args.cfg.now in
     let list = c.deref-answer-items.result.now in
-    let at = place_is graph.0 graph.1.0 g graph.1.1 c.args.self.now.places.items c.requires.made.places c.args.point c.requires.point in
-    let place : c.place_of-place.result ≡ place_of c.args.self.now.places.items c.args.point = rw c.deref.ensures.value at c.place_of-place.ensures in
+    let at = place_is graph.0 graph.1.0 g graph.1.1 c.args.self.now.tables.places.items c.requires.made.places c.args.point c.requires.point in
+    let place : c.place_of-place.result ≡ place_of c.args.self.now.tables.places.items c.args.point = rw c.deref.ensures.value at c.place_of-place.ensures in
     let lt : c.place_of-place.result < length c.args.self.now.known.items = rw (place, c.requires.made.rows) at.0 in
     let whole = take_all c.loop-answer.answer-index list (omega arith) in
     (λ t. absurd (cc), λ (a, (held, same)). absurd (c.loop-answer.invariant a (rw whole (held_there c.args.self.now.known.items c.place_of-place.result c.index.result.now list a lt c.index.ensures c.deref-answer-items.ensures.value (rw place held))) same))
