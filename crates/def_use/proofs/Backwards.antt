@@ -1,5 +1,5 @@
 -- What a search backwards meets, in terms of paths.
-use Rattle.std.proofs.Common.{◌≡◌, ◌↔◌, ℕ, zero, suc, ◌+◌, ◌-◌, ◌<◌, ◌≤◌, List, [], ◌∷◌, Some, None, length, get_or, refl, sym, ◌∙◌, ap, subst, inl, inr, ◌⊎◌, ⊎_elim, arith}
+use Rattle.std.proofs.Common.{◌≡◌, ℕ, zero, suc, ◌+◌, ◌-◌, ◌<◌, ◌≤◌, List, [], ◌∷◌, Some, length, get_or, refl, sym, ◌∙◌, ap, subst, inl, inr, ◌⊎◌, ⊎_elim, arith}
 use Rattle.std.specs.Prelude.{slice_get}
 use Rattle.std.specs.List.{All, Contains}
 use Rattle.std.proofs.lemmas.Bool.{cases_eq, cases_lt}
@@ -17,7 +17,7 @@ use Rattle.block_cfg.specs.Points.{IsPoint, IsGraphOf}
 use Rattle.flow_domain.specs.LocTables.{Rows, WritesIn}
 use Rattle.worklist.specs.Gains.{Gains}
 use Rattle.worklist.specs.Reached.{Reached, root, step}
-use Rattle.def_use.specs.Places.{point_at, place_of, line, IsPlaces, IsPlaced, AllPlaced, IsAlone, IsRun, head_of, AllRuns, IsInRun, IsLast, HasNone, IsEarlier, IsEntry, Before, Steps, GoesBack, IsWriter, AreWriters}
+use Rattle.def_use.specs.Places.{point_at, place_of, line, IsPlaces, IsPlaced, AllPlaced, IsAlone, head_of, AllRuns, IsInRun, IsLast, HasNone, IsEarlier, Before, Steps, GoesBack, IsWriter, AreWriters}
 use Rattle.def_use.proofs.RunLemmas.{at_line, alone_only, alone_from}
 
 -- ---- paths
@@ -60,12 +60,14 @@ point_same points k d lt = get_or_read points k (get_or points k d) lt (sym (rea
 
 -- what a search finds before a point
 module _ (g : Graph) (places : List ℕ) (k : ℕ) (list front : List Node) (p : Node) (xs ys : List ℕ) where
-  pub gains_earlier : list ≡ row_of g.before p → p ≡ point_at g.points k → front ≡ list → Gains (λ y. (a : Node) × (Contains front a × (y ≡ place_of places a))) xs ys → Gains (IsEarlier g places k) xs ys
+  pub gains_earlier : list ≡ row_of g.before p → p ≡ point_at g.points k → front ≡ list
+      → Gains (λ y. (a : Node) × (Contains front a × (y ≡ place_of places a))) xs ys → Gains (IsEarlier g places k) xs ys
   gains_earlier is at whole gains =
       let all : front ≡ row_of g.before (point_at g.points k) = whole ∙ (is ∙ ap (row_of g.before) at) in
       rw all at gains
 
-pub earlier_fits : (g : Graph) (places : List ℕ) (list : List Node) (p : Node) (j : ℕ) (d : Node) → AllPlaced g places → list ≡ row_of g.before p → j < length list → number (get_or list j d) < length places
+pub earlier_fits : (g : Graph) (places : List ℕ) (list : List Node) (p : Node) (j : ℕ) (d : Node) → AllPlaced g places → list ≡ row_of g.before p
+    → j < length list → number (get_or list j d) < length places
 earlier_fits g places list p j d placed is less =
     let all : All (IsPlaced g places) list = rw is (placed (number p)) in
     (all j d less).0
@@ -134,7 +136,8 @@ module _ (S : Sites) (start : Node) (g : Graph) (graph : IsGraphOf S start g) (p
   pub same_place : (j k : ℕ) → j < length g.points → k < length g.points → point_at g.points j ≡ point_at g.points k → j ≡ k
   same_place j k lt below e = sym (placed.placed j lt) ∙ (ap (place_of places) e ∙ placed.placed k below)
 
-  module _ (heads : List ℕ) (runs : AllRuns g heads) (T : Rows) (x : Loc) (writers : List ℕ) (write : AreWriters T x writers) (q : Node) (there : Contains g.points q) where
+  module _ (heads : List ℕ) (runs : AllRuns g heads) (T : Rows) (x : Loc) (writers : List ℕ) (write : AreWriters T x writers) (q : Node)
+      (there : Contains g.points q) where
     -- what it means that a place is met
     unfoldable pub Means : ℕ → Type 0
     Means y = ((y ≡ length g.points) × Enters (WritesIn T) S x start q) ⊎ ((y < length g.points) × Path (WritesIn T) S x (point_at g.points y) q)
@@ -142,7 +145,8 @@ module _ (S : Sites) (start : Node) (g : Graph) (graph : IsGraphOf S start g) (p
     not_written : (v : ℕ) → (Contains writers v → ⊥) → Writes (WritesIn T) x (At v) → ⊥
     not_written v none w = none ((write.exact v).1 (written_there (WritesIn T) x v w))
 
-    means_before : (k y : ℕ) → Before g places k y → ((a : Node) → Leads S a (point_at g.points k) → Path (WritesIn T) S x a q) → (point_at g.points k ≡ start → Enters (WritesIn T) S x start q) → Means y
+    means_before : (k y : ℕ) → Before g places k y → ((a : Node) → Leads S a (point_at g.points k) → Path (WritesIn T) S x a q)
+        → (point_at g.points k ≡ start → Enters (WritesIn T) S x start q) → Means y
     unfolding Means
     means_before k y b goes enters = ⊎_elim
         (λ (zero_is, is). inl (is, enters (ap (point_at g.points) zero_is ∙ start_is.1)))
@@ -191,7 +195,8 @@ module _ (S : Sites) (start : Node) (g : Graph) (graph : IsGraphOf S start g) (p
                 let on : Leads S (At p) (At (suc p)) = alone_from S start g graph p alone in
                 let on_d : (d : ℕ) × (suc p + d + 1 ≡ line (point_at g.points k)) = (line (point_at g.points k) - (p + 2), omega arith) in
                 let path = goes_down on_d.0 (suc p) on_d.1 (omega arith) (λ v c ge below. free v c (omega arith) below) (At p) on in
-                subst (λ z. Enters (WritesIn T) S x z q) (sym head ∙ e) (path_enters (WritesIn T) S x (At p) q path (not_written p (λ c. free p c (omega arith) less)))
+                subst (λ z. Enters (WritesIn T) S x z q) (sym head ∙ e) (path_enters (WritesIn T) S x (At p) q path
+                (not_written p (λ c. free p c (omega arith) less)))
             | inr same ↦
                 let there : point_at g.points k ≡ At p = at_line (point_at g.points k) p (omega arith) in
                 enters (there ∙ (sym head ∙ e))
@@ -228,7 +233,8 @@ module _ (S : Sites) (start : Node) (g : Graph) (graph : IsGraphOf S start g) (p
     -- ---- and what is met
 
     abbrev Open : ℕ → Type 0
-    Open k = (k < length g.points) × ((y : ℕ) → Steps g places heads writers k y → Reached (Steps g places heads writers (place_of places q)) (GoesBack g T places heads writers x) y)
+    Open k = (k < length g.points) × ((y : ℕ) → Steps g places heads writers k y → Reached (Steps g places heads writers (place_of places q))
+        (GoesBack g T places heads writers x) y)
 
     open_here : Open (place_of places q)
     open_here = (q_is.0, λ y s. root s)
@@ -249,10 +255,12 @@ module _ (S : Sites) (start : Node) (g : Graph) (graph : IsGraphOf S start g) (p
     cover_head k r o at free a l =
         let head : point_at g.points (head_of heads k) ≡ At r = at_line (point_at g.points (head_of heads k)) r at in
         let none : HasNone g writers (head_of heads k) k = λ v c inside. free v c (omega (arith, inside.0)) inside.1 in
-        let has : Contains (row_of g.before (point_at g.points (head_of heads k))) a = (graph.before a (point_at g.points (head_of heads k))).1 (subst (λ z. Leads S a z) (sym head) l) in
+        let has : Contains (row_of g.before (point_at g.points (head_of heads k))) a = (graph.before a (point_at g.points (head_of heads k))).1
+        (subst (λ z. Leads S a z) (sym head) l) in
         inl (o.1 (place_of places a) (inr (none, inr (a, (has, refl)))))
 
-    cover_on : (k r : ℕ) → Open k → line (point_at g.points (head_of heads k)) ≤ suc r → suc r < line (point_at g.points k) → FreeFrom k (suc r) → (a : Node) → Leads S a (At (suc r)) → Covered a
+    cover_on : (k r : ℕ) → Open k → line (point_at g.points (head_of heads k)) ≤ suc r → suc r < line (point_at g.points k) → FreeFrom k (suc r)
+        → (a : Node) → Leads S a (At (suc r)) → Covered a
     cover_on k r o from below free a l =
         let alone : IsAlone g (suc r) = (runs.runs k o.0).alone (suc r) from below in
         let is : a ≡ At r = alone_only S start g graph r a alone l in
@@ -262,16 +270,32 @@ module _ (S : Sites) (start : Node) (g : Graph) (graph : IsGraphOf S start g) (p
         let last : IsLast g writers (head_of heads k) k r = record {
           there = writer;
           inside = inside;
-          last = λ v c less. elim (cases_lt r v) [ | inl more ↦ absurd (free v c more less) | inr le ↦ le ];
+          last = λ v c less. elim (cases_lt r v) [ inl more ↦ absurd (free v c more less) | inr le ↦ le ];
         } in
         inl (o.1 (place_of places a) (inl (r, (last, ap (place_of places) is)))))
-        (λ none. inr (k, (o, (r, (is, (inside, λ v c ge less. elim (cases_eq v r) [
-          | inl e ↦ none (subst (λ z. Contains writers z) e c)
-          | inr ne ↦ free v c (omega arith) less
-        ]))))))
+        (λ none. inr (
+          k,
+          (
+            o,
+            (
+              r,
+              (
+                is,
+                (
+                  inside,
+                  λ v c ge less. elim (cases_eq v r) [
+                    | inl e ↦ none (subst (λ z. Contains writers z) e c)
+                    | inr ne ↦ free v c (omega arith) less
+                  ],
+                ),
+              ),
+            ),
+          ),
+        ))
         (decide writers r)
 
-    cover_step : (r k : ℕ) → Open k → line (point_at g.points (head_of heads k)) ≤ r + 1 → r + 1 ≤ line (point_at g.points k) → FreeFrom k r → (a : Node) → Leads S a (At r) → Covered a
+    cover_step : (r k : ℕ) → Open k → line (point_at g.points (head_of heads k)) ≤ r + 1 → r + 1 ≤ line (point_at g.points k) → FreeFrom k r → (a : Node)
+        → Leads S a (At r) → Covered a
     cover_step zero k o from up free a l =
         let starts = (runs.runs k o.0).starts (omega arith) in
         cover_head k 0 o (omega arith) free a l
@@ -285,12 +309,14 @@ module _ (S : Sites) (start : Node) (g : Graph) (graph : IsGraphOf S start g) (p
       | inl end ↦
           let same : head_of heads k ≡ k = (runs.runs k o.0).lone end in
           let none : HasNone g writers (head_of heads k) k = λ v c inside. let below = inside.1 in omega arith in
-          let has : Contains (row_of g.before (point_at g.points (head_of heads k))) a = subst (λ h. Contains (row_of g.before (point_at g.points h)) a) (sym same) ((graph.before a (point_at g.points k)).1 l) in
+          let has : Contains (row_of g.before (point_at g.points (head_of heads k))) a = subst (λ h. Contains (row_of g.before (point_at g.points h)) a)
+          (sym same) ((graph.before a (point_at g.points k)).1 l) in
           inl (o.1 (place_of places a) (inr (none, inr (a, (has, refl)))))
       | inr on ↦
           let r : (r : ℕ) × (line (point_at g.points k) ≡ r + 1) = (line (point_at g.points k) - 1, omega arith) in
           let up = (runs.runs k o.0).up in
-          cover_step r.0 k o (omega (arith, r.1)) (omega (arith, r.1)) (λ v c ge less. omega (arith, r.1)) a (subst (λ z. Leads S a z) (at_line (point_at g.points k) r.0 r.1) l)
+          cover_step r.0 k o (omega (arith, r.1)) (omega (arith, r.1)) (λ v c ge less. omega (arith, r.1)) a
+          (subst (λ z. Leads S a z) (at_line (point_at g.points k) r.0 r.1) l)
     ]
 
     path_cover : (a : Node) → Path (WritesIn T) S x a q → Covered a
@@ -318,7 +344,8 @@ module _ (S : Sites) (start : Node) (g : Graph) (graph : IsGraphOf S start g) (p
     not_alone : (r : ℕ) → IsAlone g r → At r ≡ start → ⊥
     not_alone r alone e = alone.later (ap number (start_is.1 ∙ sym e))
 
-    entry_from : (k : ℕ) → Open k → point_at g.points k ≡ start → Reached (Steps g places heads writers (place_of places q)) (GoesBack g T places heads writers x) (length g.points)
+    entry_from : (k : ℕ) → Open k → point_at g.points k ≡ start
+        → Reached (Steps g places heads writers (place_of places q)) (GoesBack g T places heads writers x) (length g.points)
     entry_from k o e =
         let run = runs.runs k o.0 in
         elim (cases_lt (line (point_at g.points (head_of heads k))) (line (point_at g.points k))) [

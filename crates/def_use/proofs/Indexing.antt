@@ -1,8 +1,8 @@
 -- Rows of positions by the numbers of locations.
-use Rattle.std.proofs.Common.{◌≡◌, ◌≢◌, ◌↔◌, ℕ, zero, suc, ◌+◌, ◌*◌, ◌<◌, ◌≤◌, List, [], ◌∷◌, ◌++◌, Vec, Global, Bool, true, false, Option, Some, None, length, get_or, set, take, refl, sym, ◌∙◌, ap, subst, inl, inr, ◌⊎◌, ⊎_elim, arith}
+use Rattle.std.proofs.Common.{◌≡◌, ◌≢◌, ℕ, zero, suc, ◌+◌, ◌<◌, ◌≤◌, List, [], ◌∷◌, ◌++◌, Vec, Global, Bool, true, false, Option, Some, None, length, get_or, set, take, refl, sym, ◌∙◌, ap, subst, inl, inr, ◌⊎◌, ⊎_elim, arith}
 use Rattle.std.specs.Prelude.{slice_get}
 use Rattle.std.specs.List.{All, AllPairs, Contains}
-use Rattle.std.proofs.lemmas.Bool.{cases_eq, cases_lt, cases_Bool}
+use Rattle.std.proofs.lemmas.Bool.{cases_eq, cases_lt}
 use Rattle.std.proofs.lemmas.List.{take_more}
 use Rattle.std.proofs.lemmas.Option.{slice_get_read, slice_get_within}
 use Rattle.std.proofs.lemmas.List.Elements.{All-push, Contains-push, Contains-push_cases, Contains-append_left}
@@ -10,7 +10,7 @@ use Rattle.std.proofs.lemmas.List.Quantifiers.{all_pairs_push}
 use Rattle.wasm_types.specs.declared.place.Loc.{Loc}
 use Rattle.wasm_types.specs.declared.place.Loc.TheVariants as loc
 use Rattle.flow_domain.specs.declared.loc_table.LocUse.{LocUse}
-use Rattle.flow_domain.specs.LocTables.{Rows, HasRow, HasUse, IsRowAt, row_in, WritesIn}
+use Rattle.flow_domain.specs.LocTables.{Rows, HasUse, IsRowAt, row_in, WritesIn}
 use Rattle.def_use.specs.Places.{AreWriters}
 use Rattle.def_use.specs.Writers.{loc_number, items_of, row_at, RowAdds}
 
@@ -133,16 +133,19 @@ added_row at u x old new on here others = elim (cases_eq (loc_number x) (loc_num
 pub skipped_row : (at : ℕ) (u : LocUse) (x : Loc) (row : List ℕ) → u.writes ≡ false → RowAdds at ((u.writes ≡ true) × (u.loc ≡ x)) row row
 skipped_row at u x row off = adds_none at ((u.writes ≡ true) × (u.loc ≡ x)) row (λ p. let on = p.0 in cc)
 
-pub use_added : (at : ℕ) (uses : List LocUse) (i : ℕ) (d : LocUse) (x : Loc) (first old new : List (Vec ℕ Global)) → i < length uses → (get_or uses i d).writes ≡ true
+pub use_added : (at : ℕ) (uses : List LocUse) (i : ℕ) (d : LocUse) (x : Loc) (first old new : List (Vec ℕ Global)) → i < length uses
+    → (get_or uses i d).writes ≡ true
     → (n : ℕ) → n ≡ loc_number (get_or uses i d).loc → row_at new n ≡ row_at old n ++ at ∷ [] → ((m : ℕ) → m ≢ n → row_at new m ≡ row_at old m)
     → RowAdds at (HasUse (λ u. u.writes) (take i uses) x) (row_at first (loc_number x)) (row_at old (loc_number x))
     → RowAdds at (HasUse (λ u. u.writes) (take (i + 1) uses) x) (row_at first (loc_number x)) (row_at new (loc_number x))
 use_added at uses i d x first old new lt on n is here others so_far =
     let u = get_or uses i d in
-    let added = added_row at u x old new on (ap (row_at new) (sym is) ∙ (here ∙ ap (λ m. row_at old m ++ at ∷ []) is)) (λ m ne. others m (λ e. ne (e ∙ is))) in
+    let added = added_row at u x old new on (ap (row_at new) (sym is) ∙ (here ∙ ap (λ m. row_at old m ++ at ∷ []) is)) (λ m ne. others m (λ e. ne (e ∙ is)))
+    in
     uses_more (λ v. v.writes) at uses i d x (row_at first (loc_number x)) (row_at old (loc_number x)) (row_at new (loc_number x)) lt so_far added
 
-pub use_skipped : (at : ℕ) (uses : List LocUse) (i : ℕ) (d : LocUse) (x : Loc) (first old : List (Vec ℕ Global)) → i < length uses → (get_or uses i d).writes ≡ false
+pub use_skipped : (at : ℕ) (uses : List LocUse) (i : ℕ) (d : LocUse) (x : Loc) (first old : List (Vec ℕ Global)) → i < length uses
+    → (get_or uses i d).writes ≡ false
     → RowAdds at (HasUse (λ u. u.writes) (take i uses) x) (row_at first (loc_number x)) (row_at old (loc_number x))
     → RowAdds at (HasUse (λ u. u.writes) (take (i + 1) uses) x) (row_at first (loc_number x)) (row_at old (loc_number x))
 use_skipped at uses i d x first old lt off so_far =

@@ -1,5 +1,5 @@
 -- Answers that are kept, one more among them.
-use Rattle.std.proofs.Common.{◌≡◌, ◌≢◌, ◌↔◌, ℕ, zero, suc, ◌+◌, ◌<◌, List, [], ◌∷◌, ◌++◌, Vec, Global, Some, None, length, get_or, set, refl, sym, ◌∙◌, ap, subst, inl, inr, ◌⊎◌, ⊎_elim, arith}
+use Rattle.std.proofs.Common.{◌≡◌, ◌≢◌, ℕ, zero, suc, ◌<◌, List, [], ◌∷◌, ◌++◌, Vec, Global, Some, length, get_or, set, refl, sym, ◌∙◌, ap, subst, inl, inr, ◌⊎◌, ⊎_elim, arith}
 use Rattle.std.specs.Prelude.{slice_get}
 use Rattle.std.specs.List.{All, Contains}
 use Rattle.std.proofs.lemmas.Bool.{cases_eq}
@@ -85,18 +85,21 @@ module _ (known : List (Vec Answer Global)) (k0 : ℕ) (row new : Vec Answer Glo
 
     pub was_more : (k : ℕ) (a : Answer) → Held (set known k0 new) k a → Held known k a ⊎ ((k ≡ k0) × (one ≡ a))
     was_more k a h = ⊎_elim inl
-        (λ (e, there). ⊎_elim (λ old. inl (row, (ap (slice_get known) e ∙ row_is, old))) (λ same. inr (e, same)) (Contains-push_cases row.items one a (rw pushed at there)))
+        (λ (e, there). ⊎_elim (λ old. inl (row, (ap (slice_get known) e ∙ row_is, old))) (λ same. inr (e, same))
+        (Contains-push_cases row.items one a (rw pushed at there)))
         (held_was k a h)
 
     pub one_held : Held (set known k0 new) k0 one
     one_held = held_new one (rw pushed (Contains-push row.items one))
 
-pub right_more : (g : Graph) (T : Rows) (k k0 : ℕ) (q : Node) (one a : Answer) → point_at g.points k0 ≡ q → IsAnswer g T one.loc q one.defs.items → k ≡ k0 → one ≡ a → IsAnswer g T a.loc (point_at g.points k) a.defs.items
+pub right_more : (g : Graph) (T : Rows) (k k0 : ℕ) (q : Node) (one a : Answer) → point_at g.points k0 ≡ q → IsAnswer g T one.loc q one.defs.items → k ≡ k0
+    → one ≡ a → IsAnswer g T a.loc (point_at g.points k) a.defs.items
 right_more g T k k0 q one a at right e same =
     subst (λ (z : Answer). IsAnswer g T z.loc (point_at g.points k) z.defs.items) same
     (subst (λ n. IsAnswer g T one.loc n one.defs.items) (sym (ap (point_at g.points) e ∙ at)) right)
 
-pub right_at : (g : Graph) (T : Rows) (k : ℕ) (q : Node) (a : Answer) (x : Loc) (defs : List Def) → point_at g.points k ≡ q → a.loc ≡ x → defs ≡ a.defs.items → IsAnswer g T a.loc (point_at g.points k) a.defs.items → IsAnswer g T x q defs
+pub right_at : (g : Graph) (T : Rows) (k : ℕ) (q : Node) (a : Answer) (x : Loc) (defs : List Def) → point_at g.points k ≡ q → a.loc ≡ x
+    → defs ≡ a.defs.items → IsAnswer g T a.loc (point_at g.points k) a.defs.items → IsAnswer g T x q defs
 right_at g T k q a x defs at same is right =
     rw is (subst (λ n. IsAnswer g T x n a.defs.items) at (subst (λ y. IsAnswer g T y (point_at g.points k) a.defs.items) same right))
 

@@ -1,15 +1,17 @@
 -- The last writer of a run, among writers in order.
-use Rattle.std.proofs.Common.{◌≡◌, ℕ, ◌+◌, ◌-◌, ◌<◌, ◌≤◌, List, length, get_or, sym, ◌∙◌, inl, inr, arith}
+use Rattle.std.proofs.Common.{◌≡◌, ℕ, ◌+◌, ◌-◌, ◌<◌, ◌≤◌, List, length, get_or, sym, inl, inr, arith}
 use Rattle.std.specs.List.{AllPairs, Contains}
 use Rattle.std.specs.List.Sorted.{IsNonDecreasingBy}
 use Rattle.std.proofs.lemmas.Bool.{cases_lt}
 use Rattle.std.proofs.lemmas.List.Elements.{All-contains_itself}
 use Rattle.std.proofs.lemmas.Grind.{get_or_default_zero}
 use Rattle.block_cfg.specs.Graph.{Graph}
-use Rattle.def_use.specs.Places.{point_at, line, IsInRun, IsLast, HasNone}
+use Rattle.def_use.specs.Places.{point_at, line, IsLast, HasNone}
 
-module _ (g : Graph) (writers : List ℕ) (rising : AllPairs (λ a b. a ≤ b) writers) (h k begin end count : ℕ) (begins : begin ≡ line (point_at g.points h) - 1) (ends : end ≡ line (point_at g.points k) - 1)
-    (within : count ≤ length writers) (below : (i d : ℕ) → i < count → get_or writers i d < end) (above : (i d : ℕ) → count ≤ i → i < length writers → end ≤ get_or writers i d) where
+module _ (g : Graph) (writers : List ℕ) (rising : AllPairs (λ a b. a ≤ b) writers) (h k begin end count : ℕ)
+    (begins : begin ≡ line (point_at g.points h) - 1) (ends : end ≡ line (point_at g.points k) - 1)
+    (within : count ≤ length writers) (below : (i d : ℕ) → i < count → get_or writers i d < end)
+    (above : (i d : ℕ) → count ≤ i → i < length writers → end ≤ get_or writers i d) where
   -- those before the end are among the first
   among : (v i : ℕ) → i < length writers → get_or writers i v ≡ v → v + 1 < line (point_at g.points k) → i < count
   among v i lt is less = elim (cases_lt i count) [

@@ -7,3 +7,4 @@ pub mod Keeping
 pub mod Indexing
 pub mod LastWriter
 pub mod PreviousLemmas
+pub mod CfgLemmas

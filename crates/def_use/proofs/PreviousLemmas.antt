@@ -1,18 +1,16 @@
 -- The position before another, and the heads of runs one after another.
-use Rattle.std.proofs.Common.{◌≡◌, ℕ, suc, ◌+◌, ◌-◌, ◌<◌, List, [], ◌∷◌, ◌++◌, length, get_or, refl, sym, ◌∙◌, ap, subst, inl, inr, arith}
+use Rattle.std.proofs.Common.{◌≡◌, ℕ, suc, ◌+◌, ◌<◌, List, [], ◌∷◌, ◌++◌, length, get_or, sym, ◌∙◌, ap, subst, inl, inr, arith}
 use Rattle.std.specs.List.{Contains}
 use Rattle.std.proofs.lemmas.Bool.{cases_lt}
 use Rattle.std.proofs.lemmas.List.{get_or_append_left, get_or_push}
 use Rattle.std.proofs.lemmas.List.Elements.{All-contains_itself}
-use Rattle.wasm_types.specs.declared.module.Pos.{Pos}
 use Rattle.wasm_types.specs.declared.place.Node.{Node}
-use Rattle.wasm_types.specs.declared.place.Node.TheVariants as node
 use Rattle.wasm_types.specs.declared.place.Node.TheVariants.{Exit}
 use Rattle.wasm_types.specs.Nodes.{At}
 use Rattle.wasm_types.specs.Sites.{Sites, Leads}
-use Rattle.block_cfg.specs.Graph.{Graph, number, row_of}
+use Rattle.block_cfg.specs.Graph.{Graph, row_of}
 use Rattle.block_cfg.specs.Points.{IsGraphOf}
-use Rattle.def_use.specs.Places.{point_at, place_of, IsPlaces, IsAlone, IsRun, head_of}
+use Rattle.def_use.specs.Places.{point_at, place_of, IsPlaces, IsRun, head_of}
 use Rattle.def_use.specs.Previous.{IsPrevious}
 use Rattle.def_use.proofs.Placing.{number_injective}
 use Rattle.def_use.proofs.Backwards.{earlier_is, same_place, start_is}
@@ -23,7 +21,8 @@ module _ (S : Sites) (start : Node) (g : Graph) (graph : IsGraphOf S start g) (p
   previous_is k e r p row lt at is row_is one not_first first e_is =
       let later : point_at g.points k ≡ At (suc r) = sym at ∙ is in
       let whole : row ≡ row_of g.before (At (suc r)) = row_is ∙ ap (row_of g.before) is in
-      let there : Contains (row_of g.before (At (suc r))) (At r) = subst (λ z. Contains z (At r)) whole (subst (λ a. Contains row a) first (All-contains_itself row 0 Exit (omega arith))) in
+      let there : Contains (row_of g.before (At (suc r))) (At r) = subst (λ z. Contains z (At r)) whole
+      (subst (λ a. Contains row a) first (All-contains_itself row 0 Exit (omega arith))) in
       let l : Leads S (At r) (At (suc r)) = (graph.before (At r) (At (suc r))).0 there in
       let placed_at = earlier_is S start g graph places placed (At r) (At (suc r)) l in
       let begin = start_is S start g graph places placed in
@@ -35,7 +34,8 @@ module _ (S : Sites) (start : Node) (g : Graph) (graph : IsGraphOf S start g) (p
         alone = record {
           single = rw (← whole) one;
           previous = rw (← whole, first) (omega arith);
-          later = λ same. not_first (sym (same_place S start g graph places placed 0 k begin.0 lt (number_injective (point_at g.points 0) (At (suc r)) same ∙ sym later)));
+          later = λ same. not_first (sym (same_place S start g graph places placed 0 k begin.0 lt
+              (number_injective (point_at g.points 0) (At (suc r)) same ∙ sym later)));
         };
       }
 

@@ -1,9 +1,8 @@
 -- Runs of positions: what leads to them, and one position more.
-use Rattle.std.proofs.Common.{◌≡◌, ◌≢◌, ℕ, zero, suc, ◌+◌, ◌*◌, ◌-◌, ◌<◌, ◌≤◌, List, [], ◌∷◌, length, get_or, refl, sym, ◌∙◌, ap, subst, inl, inr, ◌⊎◌, ⊎_elim, arith}
-use Rattle.std.specs.List.{All, Contains}
-use Rattle.std.proofs.lemmas.Bool.{cases_lt, cases_eq}
-use Rattle.std.proofs.lemmas.List.Elements.{All-contains, All-contains_itself}
-use Rattle.wasm_types.specs.declared.place.Loc.{Loc}
+use Rattle.std.proofs.Common.{◌≡◌, ℕ, suc, ◌+◌, ◌<◌, List, [], ◌∷◌, length, get_or, refl, sym, ◌∙◌, ap, subst, inl, inr, arith}
+use Rattle.std.specs.List.{Contains}
+use Rattle.std.proofs.lemmas.Bool.{cases_lt}
+use Rattle.std.proofs.lemmas.List.Elements.{All-contains_itself}
 use Rattle.wasm_types.specs.declared.place.Node.{Node}
 use Rattle.wasm_types.specs.declared.place.Node.TheVariants as node
 use Rattle.wasm_types.specs.declared.place.Node.TheVariants.{Exit}
@@ -11,7 +10,7 @@ use Rattle.wasm_types.specs.Nodes.{At}
 use Rattle.wasm_types.specs.Sites.{Sites, Leads}
 use Rattle.block_cfg.specs.Graph.{Graph, number, row_of}
 use Rattle.block_cfg.specs.Points.{IsGraphOf}
-use Rattle.def_use.specs.Places.{point_at, place_of, line, IsPlaces, IsPlaced, AllPlaced, IsAlone, IsRun, head_of, AllRuns}
+use Rattle.def_use.specs.Places.{point_at, line, IsAlone, IsRun}
 use Rattle.def_use.proofs.Placing.{number_injective}
 
 -- a point with a position is that position

@@ -1,5 +1,5 @@
 -- What the answers that are kept hold.
-use Rattle.std.specs.Prelude.{◌≡◌, ℕ, ◌+◌, ◌<◌, List, length, Some, Vec, slice_get}
+use Rattle.std.specs.Prelude.{◌≡◌, ℕ, ◌+◌, length, Some, Vec, slice_get}
 use Rattle.std.specs.Global.{Global}
 use Rattle.std.specs.List.{Contains}
 use Rattle.wasm_types.specs.declared.place.Loc.{Loc}

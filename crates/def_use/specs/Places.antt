@@ -86,7 +86,8 @@ Before g places k y = IsEntry g k y ⊎ IsEarlier g places k y
 -- where a search goes on before the point at place k: to the last writer of its run, or to what is before the run
 abbrev pub Steps : Graph → (places heads writers : List ℕ) → ℕ → ℕ → Type 0
 Steps g places heads writers k y =
-    ((w : ℕ) × (IsLast g writers (head_of heads k) k w × (y ≡ place_of places (At w)))) ⊎ (HasNone g writers (head_of heads k) k × Before g places (head_of heads k) y)
+    ((w : ℕ) × (IsLast g writers (head_of heads k) k w × (y ≡ place_of places (At w)))) ⊎
+    (HasNone g writers (head_of heads k) k × Before g places (head_of heads k) y)
 
 -- it goes on before a point that doesn't write the location
 abbrev pub GoesBack : Graph → Rows → (places heads writers : List ℕ) → Loc → ℕ → ℕ → Type 0

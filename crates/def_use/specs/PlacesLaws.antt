@@ -1,15 +1,13 @@
 -- A search backwards stays among the places and the entry.
-use Rattle.std.specs.Prelude.{◌≡◌, ℕ, suc, ◌+◌, ◌<◌, List, [], length, slice_index_or}
-use Rattle.std.proofs.Common.{⊎_elim, arith, ap, sym, subst}
-use Rattle.std.specs.List.{All}
+use Rattle.std.specs.Prelude.{◌≡◌, ℕ, suc, ◌+◌, ◌<◌, List, length, slice_index_or}
+use Rattle.std.proofs.Common.{⊎_elim, arith, subst}
 use Rattle.std.proofs.lemmas.List.Elements.{All-contains}
 use Rattle.wasm_types.specs.declared.place.Loc.{Loc}
-use Rattle.wasm_types.specs.declared.place.Node.{Node}
 use Rattle.wasm_types.specs.declared.place.Node.TheVariants.{Exit}
 use Rattle.wasm_types.specs.Nodes.{At}
 use Rattle.block_cfg.specs.Graph.{Graph, number, row_of}
 use Rattle.flow_domain.specs.LocTables.{Rows}
-use Rattle.def_use.specs.Places.{point_at, place_of, line, IsPlaced, AllPlaced, IsAlone, IsRun, head_of, AllRuns, IsLast, Before, Steps, GoesBack}
+use Rattle.def_use.specs.Places.{point_at, place_of, IsPlaced, AllPlaced, IsAlone, head_of, AllRuns, Before, Steps, GoesBack}
 
 before_stays : (g : Graph) (places : List ℕ) → AllPlaced g places → (k y : ℕ) → Before g places k y → y < length g.points + 1
 before_stays g places all k y b = ⊎_elim

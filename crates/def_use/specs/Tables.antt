@@ -1,5 +1,4 @@
 -- What searches over the points of a body use.
-use Rattle.std.specs.Prelude.{ℕ}
 use Rattle.wasm_types.specs.declared.place.Loc.{Loc}
 use Rattle.block_cfg.specs.Graph.{Graph}
 use Rattle.flow_domain.specs.LocTables.{Rows}

@@ -49,11 +49,7 @@ fn head_at(cfg: &Cfg, places: &[usize], heads: &[usize], place: usize) -> usize
 }
 
 /// For each place that of the first point of its run.
-pub(crate) fn heads_of(
-    alloc: Global,
-    cfg: &Cfg,
-    places: &[usize],
-) -> Result<Vec<usize>, NoMemory>
+pub(crate) fn heads_of(alloc: Global, cfg: &Cfg, places: &[usize]) -> Result<Vec<usize>, NoMemory>
     requires graph { IsGraph cfg.now }
     requires places { IsPlaces cfg.now places.now }
     ensures { IfOk result (λ heads. AllRuns cfg.now heads.items) }

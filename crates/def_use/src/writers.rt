@@ -42,12 +42,7 @@ fn extend(alloc: Global, rows: &mut Vec<Vec<usize>>, count: usize) -> Result<(),
 }
 
 /// One position more in a row.
-fn add(
-    alloc: Global,
-    rows: &mut Vec<Vec<usize>>,
-    number: usize,
-    at: usize,
-) -> Result<(), NoMemory>
+fn add(alloc: Global, rows: &mut Vec<Vec<usize>>, number: usize, at: usize) -> Result<(), NoMemory>
     requires { number < 2 ^ 34 }
     ensures here { IfOk result (λ _. spec.row_at rows.new.items number ≡ spec.row_at rows.old.items number ++ at ∷ []) }
     ensures others { IfOk result (λ _. (n : ℕ) → n ≢ number → spec.row_at rows.new.items n ≡ spec.row_at rows.old.items n) }

@@ -1,5 +1,5 @@
 -- The rows that a walk over code makes are those of its sites.
-use Rattle.std.proofs.Common.{◌≡◌, ◌↔◌, ℕ, zero, suc, ◌+◌, List, [], ◌∷◌, ◌++◌, ◌&&◌, Vec, Global, Bool, true, false, Option, Some, None, replicate, refl, ap, sym, ◌∙◌, subst, rules, arith, append_assoc, inl, inr, ◌⊎◌, ⊎_elim, drop, length, get_or, ◌<◌, ◌≤◌}
+use Rattle.std.proofs.Common.{◌≡◌, ◌↔◌, ℕ, zero, suc, ◌+◌, List, [], ◌∷◌, ◌++◌, ◌&&◌, Vec, Global, Bool, true, false, Option, Some, None, replicate, refl, ap, sym, ◌∙◌, subst, arith, append_assoc, inl, inr, ◌⊎◌, ⊎_elim, drop, length, get_or, ◌<◌, ◌≤◌}
 use Rattle.std.specs.Prelude.{slice_get}
 use Rattle.std.specs.List.{Contains}
 use Rattle.std.proofs.lemmas.List.{append-nil, replicate-append-replicate}
@@ -15,17 +15,17 @@ use Rattle.wasm_types.specs.declared.instr.Instr.{Instr, Block', Loop', If'}
 use Rattle.wasm_types.specs.declared.instr.Instr as instr
 use Rattle.wasm_types.specs.declared.instr.Instr.TheVariants.{Block, Loop, If}
 use Rattle.wasm_types.specs.Code.{Code, done, one, block, repeat, branch, onto, code_of_row, code_of, count, is_plain}
-use Rattle.wasm_types.specs.Marked.{Marked, End, Do, Br, BrIf, BrTable, Return, Unreachable, plain, marked, size}
+use Rattle.wasm_types.specs.Marked.{Marked, plain, marked, size}
 use Rattle.wasm_types.specs.Nodes.{Join, named, made}
 use Rattle.wasm_types.specs.Labels.{Label, arity, block_label, loop_label, body_label, arities, outermost}
-use Rattle.wasm_types.specs.Actions.{Callees, Action, Nothing, Const, Number, Discard, Choose, Get, Set, Tee, GetGlobal, SetGlobal, Read, Write, Pages, Grow, Copy, Fill, Form, NoForm, Plain, CallOf, CallBy, form_of, own_task, table_task, task_by, task_of}
+use Rattle.wasm_types.specs.Actions.{Callees, Action, Get, Set, Tee, GetGlobal, SetGlobal, Read, Write, Pages, Grow, Copy, Fill, Form, NoForm, Plain, CallOf, CallBy, form_of, own_task, table_task, task_by}
 use Rattle.wasm_types.specs.Locations.{is_local, is_global, is_mem, is_size, reads_in, checks_in, writes_in, TaskReads, TaskChecks, TaskWrites}
-use Rattle.wasm_types.specs.Reaching.{HeadReads, HeadChecks, HeadWrites, WritesAt}
+use Rattle.wasm_types.specs.Reaching.{HeadReads, HeadChecks, HeadWrites}
 use Rattle.wasm_types.specs.Sites.{Head, DoHead, BlockHead, LoopHead, IfHead, BrHead, BrIfHead, BrTableHead, ReturnHead, UnreachableHead, Site, Sites, IsSite, sites, body_sites}
-use Rattle.wasm_types.proofs.CodeLemmas.{code_steps, onto-block, onto-loop, onto-if, onto-one, plain_is, code-next}
+use Rattle.wasm_types.proofs.CodeLemmas.{onto-block, onto-loop, onto-if, onto-one}
 use Rattle.flow_domain.specs.declared.loc_table.LocUse.{LocUse}
 use Rattle.flow_domain.specs.LocRows.{shown_row, shown, reading, checking, writing, changing, uses_in, uses_by, uses_of, goes_on, if_live, rows_of}
-use Rattle.flow_domain.specs.LocTables.{Rows, HasRow, HasUse, IsRowAt, row_in, Used, ReadsIn, ChecksIn, WritesIn, ReadsAt, ChecksAt, IsPlainTable}
+use Rattle.flow_domain.specs.LocTables.{Rows, HasRow, HasUse, IsRowAt, row_in, IsPlainTable}
 use Rattle.flow_domain.specs.Sliced.{no_calls, watched_code}
 
 -- ---- what the code makes
@@ -38,7 +38,8 @@ pub length_shown : (rows : List (Option (Vec LocUse Global))) → length (shown 
 length_shown [] = refl
 length_shown (r ∷ rows) = ap suc (length_shown rows)
 
-pub shown_at : (rows : List (Option (Vec LocUse Global))) (p : ℕ) (d : Option (Vec LocUse Global)) → p < length rows → slice_get (shown rows) p ≡ Some (shown_row (get_or rows p d))
+pub shown_at : (rows : List (Option (Vec LocUse Global))) (p : ℕ) (d : Option (Vec LocUse Global)) → p < length rows
+    → slice_get (shown rows) p ≡ Some (shown_row (get_or rows p d))
 shown_at [] p d lt = absurd (omega arith)
 shown_at (r ∷ rows) zero d lt = refl
 shown_at (r ∷ rows) (suc p) d lt = shown_at rows p d (omega arith)
@@ -73,21 +74,27 @@ unfolding is_one
 if_uses i k x y e = holder_uses i (rw e refl)
 
 module _ (live : Bool) (i : Instr) (a b : List (Option (List LocUse))) (made : b ≡ a ++ if_live live (uses_of i) ∷ []) where
-  pub block_rows : (k : Option ValType) (xs : List Instr) (c : List (Option (List LocUse))) → i ≡ Block k xs → c ≡ b ++ rows_of live (code_of xs) → c ≡ a ++ rows_of live (onto i done)
+  pub block_rows : (k : Option ValType) (xs : List Instr) (c : List (Option (List LocUse))) → i ≡ Block k xs → c ≡ b ++ rows_of live (code_of xs)
+      → c ≡ a ++ rows_of live (onto i done)
   block_rows k xs c is more =
       let e : onto i done ≡ block k (code_of xs) done = ap (λ (z : Instr). onto z done) is ∙ onto-block k xs done in
-      rw (e, more, made, block_uses i k (code_of xs) e, append-nil (rows_of live (code_of xs))) (append_assoc a (if_live live [] ∷ []) (rows_of live (code_of xs)))
+      rw (e, more, made, block_uses i k (code_of xs) e, append-nil (rows_of live (code_of xs)))
+      (append_assoc a (if_live live [] ∷ []) (rows_of live (code_of xs)))
 
-  pub loop_rows : (k : Option ValType) (xs : List Instr) (c : List (Option (List LocUse))) → i ≡ Loop k xs → c ≡ b ++ rows_of live (code_of xs) → c ≡ a ++ rows_of live (onto i done)
+  pub loop_rows : (k : Option ValType) (xs : List Instr) (c : List (Option (List LocUse))) → i ≡ Loop k xs → c ≡ b ++ rows_of live (code_of xs)
+      → c ≡ a ++ rows_of live (onto i done)
   loop_rows k xs c is more =
       let e : onto i done ≡ repeat k (code_of xs) done = ap (λ (z : Instr). onto z done) is ∙ onto-loop k xs done in
-      rw (e, more, made, loop_uses i k (code_of xs) e, append-nil (rows_of live (code_of xs))) (append_assoc a (if_live live [] ∷ []) (rows_of live (code_of xs)))
+      rw (e, more, made, loop_uses i k (code_of xs) e, append-nil (rows_of live (code_of xs)))
+      (append_assoc a (if_live live [] ∷ []) (rows_of live (code_of xs)))
 
-  pub if_rows : (k : Option ValType) (xs ys : List Instr) (c d : List (Option (List LocUse))) → i ≡ If k xs ys → c ≡ b ++ rows_of live (code_of xs) → d ≡ c ++ rows_of live (code_of ys) → d ≡ a ++ rows_of live (onto i done)
+  pub if_rows : (k : Option ValType) (xs ys : List Instr) (c d : List (Option (List LocUse))) → i ≡ If k xs ys → c ≡ b ++ rows_of live (code_of xs)
+      → d ≡ c ++ rows_of live (code_of ys) → d ≡ a ++ rows_of live (onto i done)
   if_rows k xs ys c d is more also =
       let e : onto i done ≡ branch k (code_of xs) (code_of ys) done = ap (λ (z : Instr). onto z done) is ∙ onto-if k xs ys done in
       rw (e, also, more, made, if_uses i k (code_of xs) (code_of ys) e, append-nil (rows_of live (code_of ys)))
-      (append_assoc (a ++ if_live live [] ∷ []) (rows_of live (code_of xs)) (rows_of live (code_of ys)) ∙ append_assoc a (if_live live [] ∷ []) (rows_of live (code_of xs) ++ rows_of live (code_of ys)))
+      (append_assoc (a ++ if_live live [] ∷ []) (rows_of live (code_of xs)) (rows_of live (code_of ys)) ∙ append_assoc a (if_live live [] ∷ [])
+      (rows_of live (code_of xs) ++ rows_of live (code_of ys)))
 
   pub one_rows : is_plain i ≡ true → b ≡ a ++ rows_of live (onto i done)
   one_rows h = rw (onto-one i done h, made) refl
@@ -99,12 +106,15 @@ rows-onto live (Block' k m inner) rest = ap (λ (xs : Rows). if_live live [] ∷
 rows-onto live (Loop' k m inner) rest = ap (λ (xs : Rows). if_live live [] ∷ (xs ++ rows_of live rest)) (sym (append-nil (rows_of live (code_of_row inner))))
 rows-onto live (If' k m first n second) rest =
     let x : Rows = rows_of live (code_of_row first) in let y : Rows = rows_of live (code_of_row second) in
-    ap (λ (xs : Rows). if_live live [] ∷ xs) (sym (append_assoc x y (rows_of live rest)) ∙ ap (λ (z : Rows). (x ++ z) ++ rows_of live rest) (sym (append-nil y)))
+    ap (λ (xs : Rows). if_live live [] ∷ xs) (sym (append_assoc x y (rows_of live rest)) ∙ ap (λ (z : Rows). (x ++ z) ++ rows_of live rest)
+    (sym (append-nil y)))
 rows-onto live _ rest = refl
 
-pub rows-next : (live after : Bool) (i : Instr) (rest : Code) (a b all : Rows) → b ≡ a ++ rows_of live (onto i done) → after ≡ (goes_on i && live) → a ++ rows_of live (onto i rest) ≡ all → b ++ rows_of after rest ≡ all
+pub rows-next : (live after : Bool) (i : Instr) (rest : Code) (a b all : Rows) → b ≡ a ++ rows_of live (onto i done) → after ≡ (goes_on i && live)
+    → a ++ rows_of live (onto i rest) ≡ all → b ++ rows_of after rest ≡ all
 rows-next live after i rest a b all made is e =
-    rw (made, is) (append_assoc a (rows_of live (onto i done)) (rows_of (goes_on i && live) rest) ∙ (ap (λ (xs : List (Option (List LocUse))). a ++ xs) (sym (rows-onto live i rest)) ∙ e))
+    rw (made, is) (append_assoc a (rows_of live (onto i done)) (rows_of (goes_on i && live) rest) ∙
+    (ap (λ (xs : List (Option (List LocUse))). a ++ xs) (sym (rows-onto live i rest)) ∙ e))
 
 -- ---- what a row tells
 
@@ -137,7 +147,8 @@ use_split way u us x h = ⊎_elim
     (there_split u h.found us h.there)
 
 -- the first use is in this way, and no other
-use_on : (way : LocUse → Bool) (u : LocUse) (us : List LocUse) (x : Loc) (B : Type 0) → way u ≡ true → (HasUse way us x → ⊥) → (u.loc ≡ x) ↔ B → HasUse way (u ∷ us) x ↔ B
+use_on : (way : LocUse → Bool) (u : LocUse) (us : List LocUse) (x : Loc) (B : Type 0) → way u ≡ true → (HasUse way us x → ⊥) → (u.loc ≡ x) ↔ B
+    → HasUse way (u ∷ us) x ↔ B
 use_on way u us x B on none same = (
   λ h. ⊎_elim (λ p. same.0 p.1) (λ k. absurd (none k)) (use_split way u us x h),
   λ b. record { found = u; there = (0, omega arith, refl); same = same.1 b; so = on },
@@ -183,12 +194,20 @@ act_reads (Set k) x = use_off (λ u. u.reads) (writing (Local k)) [] x (false �
 act_reads (Tee k) x = use_off (λ u. u.reads) (writing (Local k)) [] x (false ≡ true) refl (use_nil (λ u. u.reads) x)
 act_reads (GetGlobal k) x = use_on (λ u. u.reads) (reading (GlobalLoc k)) [] x (is_global k x ≡ true) refl (no_use (λ u. u.reads) x) (global_is k x)
 act_reads (SetGlobal k) x = use_off (λ u. u.reads) (writing (GlobalLoc k)) [] x (false ≡ true) refl (use_nil (λ u. u.reads) x)
-act_reads (Read access signed) x = use_on (λ u. u.reads) (reading Mem) (checking Size ∷ []) x (is_mem x ≡ true) refl (λ h. let e : false ≡ true = (use_off (λ u. u.reads) (checking Size) [] x (false ≡ true) refl (use_nil (λ u. u.reads) x)).0 h in cc) (mem_is x)
-act_reads (Write access) x = use_on (λ u. u.reads) (changing Mem) (checking Size ∷ []) x (is_mem x ≡ true) refl (λ h. let e : false ≡ true = (use_off (λ u. u.reads) (checking Size) [] x (false ≡ true) refl (use_nil (λ u. u.reads) x)).0 h in cc) (mem_is x)
+act_reads (Read access signed) x =
+    use_on (λ u. u.reads) (reading Mem) (checking Size ∷ []) x (is_mem x ≡ true) refl
+    (λ h. let e : false ≡ true = (use_off (λ u. u.reads) (checking Size) [] x (false ≡ true) refl (use_nil (λ u. u.reads) x)).0 h in cc) (mem_is x)
+act_reads (Write access) x =
+    use_on (λ u. u.reads) (changing Mem) (checking Size ∷ []) x (is_mem x ≡ true) refl
+    (λ h. let e : false ≡ true = (use_off (λ u. u.reads) (checking Size) [] x (false ≡ true) refl (use_nil (λ u. u.reads) x)).0 h in cc) (mem_is x)
 act_reads Pages x = use_on (λ u. u.reads) (reading Size) [] x (is_size x ≡ true) refl (no_use (λ u. u.reads) x) (size_is x)
 act_reads Grow x = use_on (λ u. u.reads) (changing Size) [] x (is_size x ≡ true) refl (no_use (λ u. u.reads) x) (size_is x)
-act_reads Copy x = use_on (λ u. u.reads) (changing Mem) (checking Size ∷ []) x (is_mem x ≡ true) refl (λ h. let e : false ≡ true = (use_off (λ u. u.reads) (checking Size) [] x (false ≡ true) refl (use_nil (λ u. u.reads) x)).0 h in cc) (mem_is x)
-act_reads Fill x = use_on (λ u. u.reads) (changing Mem) (checking Size ∷ []) x (is_mem x ≡ true) refl (λ h. let e : false ≡ true = (use_off (λ u. u.reads) (checking Size) [] x (false ≡ true) refl (use_nil (λ u. u.reads) x)).0 h in cc) (mem_is x)
+act_reads Copy x =
+    use_on (λ u. u.reads) (changing Mem) (checking Size ∷ []) x (is_mem x ≡ true) refl
+    (λ h. let e : false ≡ true = (use_off (λ u. u.reads) (checking Size) [] x (false ≡ true) refl (use_nil (λ u. u.reads) x)).0 h in cc) (mem_is x)
+act_reads Fill x =
+    use_on (λ u. u.reads) (changing Mem) (checking Size ∷ []) x (is_mem x ≡ true) refl
+    (λ h. let e : false ≡ true = (use_off (λ u. u.reads) (checking Size) [] x (false ≡ true) refl (use_nil (λ u. u.reads) x)).0 h in cc) (mem_is x)
 act_reads _ x = use_nil (λ u. u.reads) x
 
 act_checks : (a : Action) (x : Loc) → HasUse (λ u. u.checks) (uses_in a) x ↔ (checks_in a x ≡ true)
@@ -197,12 +216,20 @@ act_checks (Set k) x = use_off (λ u. u.checks) (writing (Local k)) [] x (false 
 act_checks (Tee k) x = use_off (λ u. u.checks) (writing (Local k)) [] x (false ≡ true) refl (use_nil (λ u. u.checks) x)
 act_checks (GetGlobal k) x = use_off (λ u. u.checks) (reading (GlobalLoc k)) [] x (false ≡ true) refl (use_nil (λ u. u.checks) x)
 act_checks (SetGlobal k) x = use_off (λ u. u.checks) (writing (GlobalLoc k)) [] x (false ≡ true) refl (use_nil (λ u. u.checks) x)
-act_checks (Read access signed) x = use_off (λ u. u.checks) (reading Mem) (checking Size ∷ []) x (is_size x ≡ true) refl (use_on (λ u. u.checks) (checking Size) [] x (is_size x ≡ true) refl (no_use (λ u. u.checks) x) (size_is x))
-act_checks (Write access) x = use_off (λ u. u.checks) (changing Mem) (checking Size ∷ []) x (is_size x ≡ true) refl (use_on (λ u. u.checks) (checking Size) [] x (is_size x ≡ true) refl (no_use (λ u. u.checks) x) (size_is x))
+act_checks (Read access signed) x =
+    use_off (λ u. u.checks) (reading Mem) (checking Size ∷ []) x (is_size x ≡ true) refl
+    (use_on (λ u. u.checks) (checking Size) [] x (is_size x ≡ true) refl (no_use (λ u. u.checks) x) (size_is x))
+act_checks (Write access) x =
+    use_off (λ u. u.checks) (changing Mem) (checking Size ∷ []) x (is_size x ≡ true) refl
+    (use_on (λ u. u.checks) (checking Size) [] x (is_size x ≡ true) refl (no_use (λ u. u.checks) x) (size_is x))
 act_checks Pages x = use_off (λ u. u.checks) (reading Size) [] x (false ≡ true) refl (use_nil (λ u. u.checks) x)
 act_checks Grow x = use_off (λ u. u.checks) (changing Size) [] x (false ≡ true) refl (use_nil (λ u. u.checks) x)
-act_checks Copy x = use_off (λ u. u.checks) (changing Mem) (checking Size ∷ []) x (is_size x ≡ true) refl (use_on (λ u. u.checks) (checking Size) [] x (is_size x ≡ true) refl (no_use (λ u. u.checks) x) (size_is x))
-act_checks Fill x = use_off (λ u. u.checks) (changing Mem) (checking Size ∷ []) x (is_size x ≡ true) refl (use_on (λ u. u.checks) (checking Size) [] x (is_size x ≡ true) refl (no_use (λ u. u.checks) x) (size_is x))
+act_checks Copy x =
+    use_off (λ u. u.checks) (changing Mem) (checking Size ∷ []) x (is_size x ≡ true) refl
+    (use_on (λ u. u.checks) (checking Size) [] x (is_size x ≡ true) refl (no_use (λ u. u.checks) x) (size_is x))
+act_checks Fill x =
+    use_off (λ u. u.checks) (changing Mem) (checking Size ∷ []) x (is_size x ≡ true) refl
+    (use_on (λ u. u.checks) (checking Size) [] x (is_size x ≡ true) refl (no_use (λ u. u.checks) x) (size_is x))
 act_checks _ x = use_nil (λ u. u.checks) x
 
 act_writes : (a : Action) (x : Loc) → HasUse (λ u. u.writes) (uses_in a) x ↔ (writes_in a x ≡ true)
@@ -211,12 +238,20 @@ act_writes (Set k) x = use_on (λ u. u.writes) (writing (Local k)) [] x (is_loca
 act_writes (Tee k) x = use_on (λ u. u.writes) (writing (Local k)) [] x (is_local k x ≡ true) refl (no_use (λ u. u.writes) x) (local_is k x)
 act_writes (GetGlobal k) x = use_off (λ u. u.writes) (reading (GlobalLoc k)) [] x (false ≡ true) refl (use_nil (λ u. u.writes) x)
 act_writes (SetGlobal k) x = use_on (λ u. u.writes) (writing (GlobalLoc k)) [] x (is_global k x ≡ true) refl (no_use (λ u. u.writes) x) (global_is k x)
-act_writes (Read access signed) x = use_off (λ u. u.writes) (reading Mem) (checking Size ∷ []) x (false ≡ true) refl (use_off (λ u. u.writes) (checking Size) [] x (false ≡ true) refl (use_nil (λ u. u.writes) x))
-act_writes (Write access) x = use_on (λ u. u.writes) (changing Mem) (checking Size ∷ []) x (is_mem x ≡ true) refl (λ h. let e : false ≡ true = (use_off (λ u. u.writes) (checking Size) [] x (false ≡ true) refl (use_nil (λ u. u.writes) x)).0 h in cc) (mem_is x)
+act_writes (Read access signed) x =
+    use_off (λ u. u.writes) (reading Mem) (checking Size ∷ []) x (false ≡ true) refl
+    (use_off (λ u. u.writes) (checking Size) [] x (false ≡ true) refl (use_nil (λ u. u.writes) x))
+act_writes (Write access) x =
+    use_on (λ u. u.writes) (changing Mem) (checking Size ∷ []) x (is_mem x ≡ true) refl
+    (λ h. let e : false ≡ true = (use_off (λ u. u.writes) (checking Size) [] x (false ≡ true) refl (use_nil (λ u. u.writes) x)).0 h in cc) (mem_is x)
 act_writes Pages x = use_off (λ u. u.writes) (reading Size) [] x (false ≡ true) refl (use_nil (λ u. u.writes) x)
 act_writes Grow x = use_on (λ u. u.writes) (changing Size) [] x (is_size x ≡ true) refl (no_use (λ u. u.writes) x) (size_is x)
-act_writes Copy x = use_on (λ u. u.writes) (changing Mem) (checking Size ∷ []) x (is_mem x ≡ true) refl (λ h. let e : false ≡ true = (use_off (λ u. u.writes) (checking Size) [] x (false ≡ true) refl (use_nil (λ u. u.writes) x)).0 h in cc) (mem_is x)
-act_writes Fill x = use_on (λ u. u.writes) (changing Mem) (checking Size ∷ []) x (is_mem x ≡ true) refl (λ h. let e : false ≡ true = (use_off (λ u. u.writes) (checking Size) [] x (false ≡ true) refl (use_nil (λ u. u.writes) x)).0 h in cc) (mem_is x)
+act_writes Copy x =
+    use_on (λ u. u.writes) (changing Mem) (checking Size ∷ []) x (is_mem x ≡ true) refl
+    (λ h. let e : false ≡ true = (use_off (λ u. u.writes) (checking Size) [] x (false ≡ true) refl (use_nil (λ u. u.writes) x)).0 h in cc) (mem_is x)
+act_writes Fill x =
+    use_on (λ u. u.writes) (changing Mem) (checking Size ∷ []) x (is_mem x ≡ true) refl
+    (λ h. let e : false ≡ true = (use_off (λ u. u.writes) (checking Size) [] x (false ≡ true) refl (use_nil (λ u. u.writes) x)).0 h in cc) (mem_is x)
 act_writes _ x = use_nil (λ u. u.writes) x
 
 own_reads : (g : ℕ) (t : Option FuncType) (x : Loc) → TaskReads (own_task g t) x → ⊥
@@ -262,9 +297,11 @@ form_writes cs (CallOf g) x = (λ h. absurd (no_use (λ u. u.writes) x h), λ h.
 form_writes cs (CallBy t) x = (λ h. absurd (no_use (λ u. u.writes) x h), λ h. absurd (table_writes t (cs.type_at t) x h))
 
 tells_do : (cs : Callees) (op : Instr) → Tells cs (uses_of op) (DoHead op)
-tells_do cs op = record { reads = λ x. form_reads cs (form_of op) x; checks = λ x. form_checks cs (form_of op) x; writes = λ x. form_writes cs (form_of op) x }
+tells_do cs op =
+    record { reads = λ x. form_reads cs (form_of op) x; checks = λ x. form_checks cs (form_of op) x; writes = λ x. form_writes cs (form_of op) x }
 
-tells_nothing : (cs : Callees) (head : Head) → ((x : Loc) → HeadReads cs head x → ⊥) → ((x : Loc) → HeadChecks cs no_calls head x → ⊥) → ((x : Loc) → HeadWrites cs no_calls head x → ⊥) → Tells cs [] head
+tells_nothing : (cs : Callees) (head : Head) → ((x : Loc) → HeadReads cs head x → ⊥) → ((x : Loc) → HeadChecks cs no_calls head x → ⊥)
+    → ((x : Loc) → HeadWrites cs no_calls head x → ⊥) → Tells cs [] head
 tells_nothing cs head r c w = record {
   reads = λ x. (λ h. absurd (no_use (λ u. u.reads) x h), λ h. absurd (r x h));
   checks = λ x. (λ h. absurd (no_use (λ u. u.checks) x h), λ h. absurd (c x h));
@@ -304,11 +341,28 @@ dead_rows : (c : Code) → rows_of false c ≡ replicate (count c) None
 dead_rows done = refl
 dead_rows (one op rest) = rw (and_false (goes_on op), dead_rows rest) (one_none (1 + count rest) (count rest) (omega arith))
 dead_rows (block kind body rest) =
-    rw (dead_rows body, dead_rows rest, replicate-append-replicate {A = Option (List LocUse)} (count body) (count rest) None) (one_none (1 + count body + count rest) (count body + count rest) (omega arith))
+    rw (
+      dead_rows body,
+      dead_rows rest,
+      replicate-append-replicate {A =
+          Option (List LocUse)} (count body) (count rest) None,
+    ) (one_none (1 + count body + count rest) (count body + count rest) (omega arith))
 dead_rows (repeat kind body rest) =
-    rw (dead_rows body, dead_rows rest, replicate-append-replicate {A = Option (List LocUse)} (count body) (count rest) None) (one_none (1 + count body + count rest) (count body + count rest) (omega arith))
+    rw (
+      dead_rows body,
+      dead_rows rest,
+      replicate-append-replicate {A =
+          Option (List LocUse)} (count body) (count rest) None,
+    ) (one_none (1 + count body + count rest) (count body + count rest) (omega arith))
 dead_rows (branch kind x y rest) =
-    rw (dead_rows x, dead_rows y, dead_rows rest, replicate-append-replicate {A = Option (List LocUse)} (count y) (count rest) None, replicate-append-replicate {A = Option (List LocUse)} (count x) (count y + count rest) None)
+    rw (
+      dead_rows x,
+      dead_rows y,
+      dead_rows rest,
+      replicate-append-replicate {A =
+          Option (List LocUse)} (count y) (count rest) None,
+      replicate-append-replicate {A = Option (List LocUse)} (count x) (count y + count rest) None,
+    )
     (one_none (1 + count x + count y + count rest) (count x + (count y + count rest)) (omega arith))
 
 size_leaf : (m : Bool) (op : Instr) (rest : Marked) → size (plain m op rest) ≡ 1 + size rest
@@ -338,30 +392,34 @@ module _ (cs : Callees) where
   fit_plain ctx k m instr.Unreachable M c p names live dead = (tells_nothing cs UnreachableHead (λ x h. h) (λ x h. h) (λ x h. h), dead)
   fit_plain ctx k m op M c p names live dead = (tells_do cs op, live _)
 
-  fit_code : (w : ℕ → Bool) (c : Code) (ctx : List Label) (k : Node) (q p : ℕ) (names : List Node) → Fit cs (rows_of true c) (sites cs ctx k (marked w q c) p names)
+  fit_code : (w : ℕ → Bool) (c : Code) (ctx : List Label) (k : Node) (q p : ℕ) (names : List Node)
+      → Fit cs (rows_of true c) (sites cs ctx k (marked w q c) p names)
   fit_code w done ctx k q p names = tt
   fit_code w (one op rest) ctx k q p names =
       fit_plain ctx k (w q) op (marked w (q + 1) rest) rest p names (λ names'. fit_code w rest ctx k (q + 1) (p + 1) names') (fit_dead_code cs w (q + 1) rest)
   fit_code w (block kind body rest) ctx k q p names =
-      let B = marked w (q + 1) body in let e = p + 1 + size B in
-      (tells_nothing cs (BlockHead kind) (λ x h. h) (λ x h. h) (λ x h. h),
-      fit_append cs (rows_of true body) (rows_of true rest) _ _
-      (fit_code w body (block_label p (arity kind) e ∷ ctx) (Join p) (q + 1) (p + 1) [])
-      (fit_code w rest ctx k (q + 1 + count body) e (named (arity kind) (Join p) names)))
+      let B = marked w (q + 1) body in let e = p + 1 + size B in (
+        tells_nothing cs (BlockHead kind) (λ x h. h) (λ x h. h) (λ x h. h),
+        fit_append cs (rows_of true body) (rows_of true rest) _ _
+            (fit_code w body (block_label p (arity kind) e ∷ ctx) (Join p) (q + 1) (p + 1) [])
+            (fit_code w rest ctx k (q + 1 + count body) e (named (arity kind) (Join p) names)),
+      )
   fit_code w (repeat kind body rest) ctx k q p names =
-      let B = marked w (q + 1) body in let e = p + 1 + size B in
-      (tells_nothing cs (LoopHead kind) (λ x h. h) (λ x h. h) (λ x h. h),
-      fit_append cs (rows_of true body) (rows_of true rest) _ _
-      (fit_code w body (loop_label p e ∷ ctx) (Join p) (q + 1) (p + 1) [])
-      (fit_code w rest ctx k (q + 1 + count body) e (named (arity kind) (Join p) names)))
+      let B = marked w (q + 1) body in let e = p + 1 + size B in (
+        tells_nothing cs (LoopHead kind) (λ x h. h) (λ x h. h) (λ x h. h),
+        fit_append cs (rows_of true body) (rows_of true rest) _ _
+            (fit_code w body (loop_label p e ∷ ctx) (Join p) (q + 1) (p + 1) [])
+            (fit_code w rest ctx k (q + 1 + count body) e (named (arity kind) (Join p) names)),
+      )
   fit_code w (branch kind x y rest) ctx k q p names =
-      let X = marked w (q + 1) x in let Y = marked w (q + 1 + count x) y in let e = p + 1 + size X + size Y in
-      (tells_nothing cs (IfHead kind) (λ z h. h) (λ z h. h) (λ z h. h),
-      fit_append cs (rows_of true x) (rows_of true y ++ rows_of true rest) _ _
-      (fit_code w x (block_label p (arity kind) e ∷ ctx) (Join p) (q + 1) (p + 1) [])
-      (fit_append cs (rows_of true y) (rows_of true rest) _ _
-      (fit_code w y (block_label p (arity kind) e ∷ ctx) (Join p) (q + 1 + count x) (p + 1 + size X) [])
-      (fit_code w rest ctx k (q + 1 + count x + count y) e (named (arity kind) (Join p) (drop 1 names)))))
+      let X = marked w (q + 1) x in let Y = marked w (q + 1 + count x) y in let e = p + 1 + size X + size Y in (
+        tells_nothing cs (IfHead kind) (λ z h. h) (λ z h. h) (λ z h. h),
+        fit_append cs (rows_of true x) (rows_of true y ++ rows_of true rest) _ _
+            (fit_code w x (block_label p (arity kind) e ∷ ctx) (Join p) (q + 1) (p + 1) [])
+            (fit_append cs (rows_of true y) (rows_of true rest) _ _
+            (fit_code w y (block_label p (arity kind) e ∷ ctx) (Join p) (q + 1 + count x) (p + 1 + size X) [])
+            (fit_code w rest ctx k (q + 1 + count x + count y) e (named (arity kind) (Join p) (drop 1 names)))),
+      )
 
   fit_row : (rows : Rows) (S : Sites) → Fit cs rows S → (p : ℕ) (uses : List LocUse) → HasRow rows p uses → (s : Site) × (IsSite S p s × Tells cs uses s.head)
   fit_row [] [] fit p uses h = absurd cc
@@ -375,7 +433,8 @@ module _ (cs : Callees) where
   fit_row (None ∷ rows) [] fit p uses h = absurd fit
   fit_row (Some u ∷ rows) [] fit p uses h = absurd fit
 
-  fit_site : (rows : Rows) (S : Sites) → Fit cs rows S → (p : ℕ) (s : Site) → IsSite S p s → (uses : List LocUse) × (HasRow rows p uses × Tells cs uses s.head)
+  fit_site : (rows : Rows) (S : Sites) → Fit cs rows S → (p : ℕ) (s : Site) → IsSite S p s
+      → (uses : List LocUse) × (HasRow rows p uses × Tells cs uses s.head)
   fit_site [] [] fit p s h = absurd cc
   fit_site [] (t ∷ S) fit p s h = absurd fit
   fit_site (None ∷ rows) (None ∷ S) fit zero s h = absurd cc
@@ -387,7 +446,8 @@ module _ (cs : Callees) where
   fit_site (None ∷ rows) [] fit p s h = absurd fit
   fit_site (Some u ∷ rows) [] fit p s h = absurd fit
 
-  pub plain_table : (results : ℕ) (w : ℕ → Bool) (b : Body) (T : Rows) → T ≡ rows_of true (code_of b.code) → IsPlainTable cs (body_sites cs results (watched_code w b)) T
+  pub plain_table : (results : ℕ) (w : ℕ → Bool) (b : Body) (T : Rows) → T ≡ rows_of true (code_of b.code)
+      → IsPlainTable cs (body_sites cs results (watched_code w b)) T
   plain_table results w b T is =
       let c : Marked = watched_code w b in
       let S : Sites = body_sites cs results c in
@@ -417,7 +477,9 @@ module _ (T : Rows) (rows list : List (Option (Vec LocUse Global))) (p : ℕ) (v
   pub row_past : length list ≤ p → IsRowAt T p []
   row_past le = let none : slice_get (shown rows) p ≡ None = shown_past rows p (rw same at le) in rw (← view, none) refl
 
-  pub row_here : (row : Option (Vec LocUse Global)) (uses : List LocUse) → p < length list → row ≡ get_or list p row → uses ≡ row_in (Some (shown_row row)) → IsRowAt T p uses
+  pub row_here : (row : Option (Vec LocUse Global)) (uses : List LocUse) → p < length list → row ≡ get_or list p row → uses ≡ row_in (Some (shown_row row))
+      → IsRowAt T p uses
   row_here row uses lt is e =
-      let at : slice_get (shown rows) p ≡ Some (shown_row row) = shown_at rows p row (rw same at lt) ∙ ap (λ (r : Option (Vec LocUse Global)). Some (shown_row r)) (sym (rw same at is)) in
+      let at : slice_get (shown rows) p ≡ Some (shown_row row) = shown_at rows p row (rw same at lt) ∙ ap
+      (λ (r : Option (Vec LocUse Global)). Some (shown_row r)) (sym (rw same at is)) in
       rw (← view, at) e

@@ -1,5 +1,5 @@
 -- The rows of a table of locations, and those that a walk over code makes.
-use Rattle.std.specs.Prelude.{ℕ, List, [], ◌∷◌, ◌++◌, ◌&&◌, Vec, Bool, true, false, Option, Some, None}
+use Rattle.std.specs.Prelude.{List, [], ◌∷◌, ◌++◌, ◌&&◌, Vec, Bool, true, false, Option, Some, None}
 use Rattle.std.specs.Global.{Global}
 use Rattle.wasm_types.specs.declared.place.Loc.{Loc}
 use Rattle.wasm_types.specs.declared.place.Loc.TheVariants as loc

@@ -1,5 +1,5 @@
 -- What a table of locations says, and which is the table of a body (docs/ANALYSES.md, "Locations").
-use Rattle.std.specs.Prelude.{◌≡◌, ◌↔◌, ℕ, List, [], Bool, true, Option, Some, None, slice_get}
+use Rattle.std.specs.Prelude.{◌≡◌, ◌↔◌, ℕ, List, [], Bool, true, Option, Some, slice_get}
 use Rattle.std.specs.List.{Contains}
 use Rattle.wasm_types.specs.declared.place.Loc.{Loc}
 use Rattle.wasm_types.specs.Actions.{Callees}

@@ -57,20 +57,26 @@ impl LocTable {
     pub fn reads(&self, pos: Pos, loc: Loc) -> bool
         ensures { IsTrue result ↔ ReadsIn self.now pos.0 loc }
     {
-        self.uses(pos.0 as usize).iter().any(|one| one.reads && one.loc == loc)
+        self.uses(pos.0 as usize)
+            .iter()
+            .any(|one| one.reads && one.loc == loc)
     }
 
     /// Whether a location decides if a position traps: false also where that is dead, or no position of the body.
     pub fn checks(&self, pos: Pos, loc: Loc) -> bool
         ensures { IsTrue result ↔ ChecksIn self.now pos.0 loc }
     {
-        self.uses(pos.0 as usize).iter().any(|one| one.checks && one.loc == loc)
+        self.uses(pos.0 as usize)
+            .iter()
+            .any(|one| one.checks && one.loc == loc)
     }
 
     /// Whether a position writes a location: false also where it is dead, or no position of the body.
     pub fn writes(&self, pos: Pos, loc: Loc) -> bool
         ensures { IsTrue result ↔ WritesIn self.now pos.0 loc }
     {
-        self.uses(pos.0 as usize).iter().any(|one| one.writes && one.loc == loc)
+        self.uses(pos.0 as usize)
+            .iter()
+            .any(|one| one.writes && one.loc == loc)
     }
 }

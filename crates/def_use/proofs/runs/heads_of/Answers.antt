@@ -1,4 +1,4 @@
-use Rattle.std.proofs.Common.{rules, arith, ◌≡◌, ◌+◌, ◌++◌, ◌∷◌, [], length, length-append}
+use Rattle.std.proofs.Common.{rules, arith, ◌≡◌, ◌++◌, ◌∷◌, [], length-append}
 use Rattle.def_use.proofs.PreviousLemmas.{runs_push}
 use Rattle.def_use.proofs.runs.heads_of.Goals as goal
 

@@ -15,27 +15,34 @@ loop-node-init g c =
       rows_is = started.rows ∙ (c.in_ok-search.ensures.rows ∙ c.node_count.ensures);
       words_is = rw started.words c.in_ok-search.ensures.words;
       ready = rw started.rows started.ready;
-      found = rw started.words (labels_begin begun.table.words (IsRootOf roots) Edge begun.table.bits c.start_each.new.self.table.bits c.start_each.new.self.waiting.items
+      found =
+          rw started.words (labels_begin begun.table.words (IsRootOf roots) Edge begun.table.bits c.start_each.new.self.table.bits
+          c.start_each.new.self.waiting.items
           c.in_ok-search.ensures.none (rw c.in_ok-search.ensures.empty at started.spreads));
     }
 
 pub push_next-requires : goal.push_next-requires
 push_next-requires g c =
-    rw (← c.loop-node.invariant.rows_is) ((All-pop (λ x. x < c.loop-node.search.table.rows) c.loop-node.search.waiting.items c.pop.new.self.items (Some c.in-Some.node) c.in-Some.ensures.items c.loop-node.invariant.ready).1)
+    rw (← c.loop-node.invariant.rows_is) ((All-pop (λ x. x < c.loop-node.search.table.rows) c.loop-node.search.waiting.items c.pop.new.self.items
+    (Some c.in-Some.node) c.in-Some.ensures.items c.loop-node.invariant.ready).1)
 
 pub spread_each-requires-clause-from : goal.spread_each-requires-clause-from
 spread_each-requires-clause-from g c =
-    (All-pop (λ x. x < c.loop-node.search.table.rows) c.loop-node.search.waiting.items c.pop.new.self.items (Some c.in-Some.node) c.in-Some.ensures.items c.loop-node.invariant.ready).1
+    (All-pop (λ x. x < c.loop-node.search.table.rows) c.loop-node.search.waiting.items c.pop.new.self.items (Some c.in-Some.node) c.in-Some.ensures.items
+    c.loop-node.invariant.ready).1
 
 pub spread_each-requires-clause-ready : goal.spread_each-requires-clause-ready
 spread_each-requires-clause-ready g c =
-    (All-pop (λ x. x < c.loop-node.search.table.rows) c.loop-node.search.waiting.items c.pop.new.self.items (Some c.in-Some.node) c.in-Some.ensures.items c.loop-node.invariant.ready).0
+    (All-pop (λ x. x < c.loop-node.search.table.rows) c.loop-node.search.waiting.items c.pop.new.self.items (Some c.in-Some.node) c.in-Some.ensures.items
+    c.loop-node.invariant.ready).0
 
 pub spread_each-requires-clause-nodes : goal.spread_each-requires-clause-nodes
 spread_each-requires-clause-nodes g c =
     let search = c.loop-node.search in
-    let popped = All-pop (λ x. x < c.loop-node.search.table.rows) c.loop-node.search.waiting.items c.pop.new.self.items (Some c.in-Some.node) c.in-Some.ensures.items c.loop-node.invariant.ready in
-    labels_below search.table.words (IsRootOf c.args.roots.now) (g.G.Graph.leads c.args.graph.now) search.table.bits search.waiting.items c.pop.new.self.items c.in-Some.node (taken_last search.waiting.items c.pop.new.self.items c.in-Some.node c.in-Some.ensures.items) c.loop-node.invariant.found
+    let popped = All-pop (λ x. x < c.loop-node.search.table.rows) c.loop-node.search.waiting.items c.pop.new.self.items (Some c.in-Some.node)
+    c.in-Some.ensures.items c.loop-node.invariant.ready in
+    labels_below search.table.words (IsRootOf c.args.roots.now) (g.G.Graph.leads c.args.graph.now) search.table.bits search.waiting.items c.pop.new.self.items
+    c.in-Some.node (taken_last search.waiting.items c.pop.new.self.items c.in-Some.node c.in-Some.ensures.items) c.loop-node.invariant.found
     c.clear.new.self.items c.push_next.new.next.items c.deref.result.now c.clear.ensures.items c.in_ok-push_next.ensures c.deref.ensures.value
     search.table.rows popped.1
     (rw c.loop-node.invariant.rows_is (λ x y lt e. g.met.G.Graph.stays c.args.graph.now x y lt e))
@@ -48,7 +55,10 @@ loop-node-preserved g c =
       rows_is = spread.rows ∙ c.loop-node.invariant.rows_is;
       words_is = rw spread.words c.loop-node.invariant.words_is;
       ready = rw spread.rows spread.ready;
-      found = rw spread.words (labels_go search.table.words (IsRootOf c.args.roots.now) (g.G.Graph.leads c.args.graph.now) search.table.bits search.waiting.items c.pop.new.self.items c.in-Some.node (taken_last search.waiting.items c.pop.new.self.items c.in-Some.node c.in-Some.ensures.items) c.loop-node.invariant.found
+      found =
+          rw spread.words (labels_go search.table.words (IsRootOf c.args.roots.now) (g.G.Graph.leads c.args.graph.now) search.table.bits search.waiting.items
+          c.pop.new.self.items c.in-Some.node (taken_last search.waiting.items c.pop.new.self.items c.in-Some.node c.in-Some.ensures.items)
+          c.loop-node.invariant.found
           c.clear.new.self.items c.push_next.new.next.items c.deref.result.now c.clear.ensures.items c.in_ok-push_next.ensures c.deref.ensures.value
           c.spread_each.new.self.table.bits c.spread_each.new.self.waiting.items spread.spreads);
     }
@@ -57,4 +67,5 @@ pub returns-clause-exact : goal.returns-clause-exact
 returns-clause-exact g c = λ x o lt.
     let search = c.loop-node.search in
     let none : search.waiting.items ≡ [] = nothing_left search.waiting.items (sym search.waiting.ok.0 ∙ c.in_default.ensures.cases.0) in
-    labels_end search.table.words (IsRootOf c.args.roots.now) (g.G.Graph.leads c.args.graph.now) search.table.bits (rw none at c.loop-node.invariant.found) x o (omega (arith, c.loop-node.invariant.words_is))
+    labels_end search.table.words (IsRootOf c.args.roots.now) (g.G.Graph.leads c.args.graph.now) search.table.bits (rw none at c.loop-node.invariant.found) x
+    o (omega (arith, c.loop-node.invariant.words_is))

@@ -9,7 +9,12 @@ loop-zero-preserved c =
     let pushed : c.push.new.self.items ≡ page.items ++ 0 ∷ [] = search rules in
     let short : length page.items < 512 = omega (arith, c.loop-zero.invariant.length_is, page.ok.0) in
     record {
-      page = rw pushed (omega (arith, length-append page.items (0 ∷ [])), All-push (λ (w : ℕ). w < 2 ^ 64) page.items 0 c.loop-zero.invariant.page.1 (omega arith));
+      page =
+          rw pushed (
+            omega (arith, length-append page.items (0 ∷ [])),
+            All-push (λ (w : ℕ). w < 2 ^ 64) page.items 0 c.loop-zero.invariant.page.1
+                (omega arith),
+          );
       same = rw pushed (filled_push page.items short ∙ c.loop-zero.invariant.same);
       length_is = search rules;
     }

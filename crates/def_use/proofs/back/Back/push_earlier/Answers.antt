@@ -1,11 +1,10 @@
-use Rattle.std.proofs.Common.{rules, arith, ◌≡◌, ◌<◌, ◌++◌, ◌∷◌, [], ◌∙◌, sym, ℕ, length, get_or, take}
+use Rattle.std.proofs.Common.{rules, arith, ◌≡◌, ◌++◌, ◌∷◌, [], ◌∙◌, sym, get_or, take}
 use Rattle.std.proofs.Math.Seq.{take_all}
 use Rattle.std.proofs.lemmas.List.Elements.{All-contains_itself}
 use Rattle.wasm_types.specs.declared.place.Node.{Node}
 use Rattle.wasm_types.specs.declared.place.Node.TheVariants as node
 use Rattle.worklist.proofs.Pushing.{gains_each}
-use Rattle.block_cfg.specs.Graph.{row_of}
-use Rattle.def_use.specs.Places.{point_at, place_of}
+use Rattle.def_use.specs.Places.{place_of}
 use Rattle.def_use.proofs.Backwards.{point_same, earlier_fits, gains_earlier}
 use Rattle.def_use.proofs.back.Back.push_earlier.Goals as goal
 
@@ -24,7 +23,8 @@ loop-earlier-preserved c =
     let d : Node = node.At (record { 0 = 0 }) in
     let list = c.before-earlier-items.result.now in
     let pushed : c.push.new.self.items ≡ c.loop-earlier.next.items ++ c.place_of-earlier_place.result ∷ [] = search rules in
-    gains_each list c.loop-earlier.earlier-index d (λ a y. y ≡ place_of c.args.self.now.places.now a) c.place_of-earlier_place.result c.args.next.now.items c.loop-earlier.next.items c.push.new.self.items
+    gains_each list c.loop-earlier.earlier-index d (λ a y. y ≡ place_of c.args.self.now.places.now a) c.place_of-earlier_place.result c.args.next.now.items
+    c.loop-earlier.next.items c.push.new.self.items
     c.loop-earlier-test.true c.place_of-earlier_place.ensures (λ y e. e ∙ sym c.place_of-earlier_place.ensures) c.loop-earlier.invariant pushed
 
 pub returns : goal.returns
@@ -32,5 +32,7 @@ returns c =
     let g = c.args.self.now.cfg.now in
     let d : Node = node.At (record { 0 = 0 }) in
     let list = c.before-earlier-items.result.now in
-    gains_earlier g c.args.self.now.places.now c.args.place list (take c.loop-earlier.earlier-index list) (get_or g.points c.args.place d) c.args.next.now.items c.loop-earlier.next.items
-    (rw c.points.ensures at c.before-earlier-items.ensures) (point_same g.points c.args.place d c.requires) (take_all c.loop-earlier.earlier-index list (omega arith)) c.loop-earlier.invariant
+    gains_earlier g c.args.self.now.places.now c.args.place list (take c.loop-earlier.earlier-index list) (get_or g.points c.args.place d)
+    c.args.next.now.items c.loop-earlier.next.items
+    (rw c.points.ensures at c.before-earlier-items.ensures) (point_same g.points c.args.place d c.requires)
+    (take_all c.loop-earlier.earlier-index list (omega arith)) c.loop-earlier.invariant

@@ -1,5 +1,4 @@
-use Rattle.std.proofs.Common.{arith, ◌≡◌, ◌<◌, ◌∙◌, sym, ap, refl, length, get_or, take, ⊎_elim, true, false}
-use Rattle.std.specs.List.{Contains}
+use Rattle.std.proofs.Common.{arith, ◌≡◌, ◌<◌, ◌∙◌, ap, refl, length, get_or, take, ⊎_elim, true, false}
 use Rattle.std.proofs.Math.Seq.{take_all}
 use Rattle.std.proofs.lemmas.List.{take_more}
 use Rattle.std.proofs.lemmas.List.Elements.{Contains-push_cases}
@@ -12,7 +11,8 @@ use Rattle.def_use.proofs.kept.Reach.known.Goals as goal
 pub place_of-place-requires : goal.place_of-place-requires
 place_of-place-requires c =
     let graph = c.requires.graph in
-    rw c.deref.ensures.value (point_fits graph.0 graph.1.0 c.args.cfg.now graph.1.1 c.args.self.now.tables.places.items c.requires.made.places c.args.point c.requires.point)
+    rw c.deref.ensures.value (point_fits graph.0 graph.1.0 c.args.cfg.now graph.1.1 c.args.self.now.tables.places.items c.requires.made.places c.args.point
+    c.requires.point)
 
 pub loop-answer-preserved : goal.loop-answer-preserved
 loop-answer-preserved c = λ a h same.
@@ -35,8 +35,10 @@ returns-then-is_same-clause-answer c = λ T right.
     let at = place_is graph.0 graph.1.0 g graph.1.1 c.args.self.now.tables.places.items c.requires.made.places c.args.point c.requires.point in
     let place : c.place_of-place.result ≡ place_of c.args.self.now.tables.places.items c.args.point = rw c.deref.ensures.value at c.place_of-place.ensures in
     let lt : c.place_of-place.result < length c.args.self.now.known.items = rw (place, c.requires.made.rows) at.0 in
-    let held = held_here c.args.self.now.known.items c.place_of-place.result c.index.result.now c.deref-answer-items.result.now c.loop-answer.answer-index c.answer-item.result lt c.index.ensures c.deref-answer-items.ensures.value c.loop-answer-test.true c.answer-item.is in
-    right_at g T c.place_of-place.result c.args.point c.answer-item.result c.args.loc c.as_slice.result.now (ap (point_at g.points) place ∙ at.1) (c.is_same.ensures.0 c.if-is_same.true) c.as_slice.ensures.value
+    let held = held_here c.args.self.now.known.items c.place_of-place.result c.index.result.now c.deref-answer-items.result.now c.loop-answer.answer-index
+    c.answer-item.result lt c.index.ensures c.deref-answer-items.ensures.value c.loop-answer-test.true c.answer-item.is in
+    right_at g T c.place_of-place.result c.args.point c.answer-item.result c.args.loc c.as_slice.result.now (ap (point_at g.points) place ∙ at.1)
+    (c.is_same.ensures.0 c.if-is_same.true) c.as_slice.ensures.value
     (right.answers c.place_of-place.result c.answer-item.result held)
 
 pub returns-then-is_same-clause-there : goal.returns-then-is_same-clause-there
@@ -46,7 +48,8 @@ returns-then-is_same-clause-there c =
     let at = place_is graph.0 graph.1.0 g graph.1.1 c.args.self.now.tables.places.items c.requires.made.places c.args.point c.requires.point in
     let place : c.place_of-place.result ≡ place_of c.args.self.now.tables.places.items c.args.point = rw c.deref.ensures.value at c.place_of-place.ensures in
     let lt : c.place_of-place.result < length c.args.self.now.known.items = rw (place, c.requires.made.rows) at.0 in
-    let held = held_here c.args.self.now.known.items c.place_of-place.result c.index.result.now c.deref-answer-items.result.now c.loop-answer.answer-index c.answer-item.result lt c.index.ensures c.deref-answer-items.ensures.value c.loop-answer-test.true c.answer-item.is in
+    let held = held_here c.args.self.now.known.items c.place_of-place.result c.index.result.now c.deref-answer-items.result.now c.loop-answer.answer-index
+    c.answer-item.result lt c.index.ensures c.deref-answer-items.ensures.value c.loop-answer-test.true c.answer-item.is in
     (λ t. (c.answer-item.result, (rw place at held, c.is_same.ensures.0 c.if-is_same.true)), λ k. refl)
 
 pub returns-clause-there : goal.returns-clause-there
@@ -57,5 +60,9 @@ returns-clause-there c =
     let at = place_is graph.0 graph.1.0 g graph.1.1 c.args.self.now.tables.places.items c.requires.made.places c.args.point c.requires.point in
     let place : c.place_of-place.result ≡ place_of c.args.self.now.tables.places.items c.args.point = rw c.deref.ensures.value at c.place_of-place.ensures in
     let lt : c.place_of-place.result < length c.args.self.now.known.items = rw (place, c.requires.made.rows) at.0 in
-    let whole = take_all c.loop-answer.answer-index list (omega arith) in
-    (λ t. absurd (cc), λ (a, (held, same)). absurd (c.loop-answer.invariant a (rw whole (held_there c.args.self.now.known.items c.place_of-place.result c.index.result.now list a lt c.index.ensures c.deref-answer-items.ensures.value (rw place held))) same))
+    let whole = take_all c.loop-answer.answer-index list (omega arith) in (
+      λ t. absurd (cc),
+      λ (a, (held, same)). absurd (c.loop-answer.invariant a
+          (rw whole (held_there c.args.self.now.known.items c.place_of-place.result c.index.result.now list a lt c.index.ensures c.deref-answer-items.ensures.value
+          (rw place held))) same),
+    )

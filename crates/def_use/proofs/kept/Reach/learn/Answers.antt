@@ -1,4 +1,4 @@
-use Rattle.std.proofs.Common.{rules, arith, ◌≡◌, ◌<◌, ◌++◌, ◌∷◌, [], ◌∙◌, sym, ap, length, set, subst, refl, ⊎_elim}
+use Rattle.std.proofs.Common.{rules, ◌≡◌, ◌<◌, ◌++◌, ◌∷◌, [], ◌∙◌, sym, ap, length, set, subst, refl, ⊎_elim}
 use Rattle.def_use.specs.declared.kept.Answer.{Answer}
 use Rattle.def_use.specs.Places.{place_of, point_at}
 use Rattle.def_use.proofs.Backwards.{place_is}
@@ -13,7 +13,12 @@ returns-in_err-map_err-clause-right c =
     let place : c.place_of-place.result ≡ place_of c.args.self.now.tables.places.items c.args.point = rw c.deref.ensures.value at c.place_of-place.ensures in
     let lt : c.place_of-place.result < length c.args.self.now.known.items = rw (place, c.requires.made.rows) at.0 in
     let same : c.push.new.self.items ≡ c.index_mut.result.now.items = search rules in
-    record { tables = c.requires.right.tables; answers = λ k a h. c.requires.right.answers k a (was_same c.args.self.now.known.items c.place_of-place.result c.index_mut.result.now c.push.new.self lt c.index_mut.ensures.value same k a h) }
+    record {
+      tables =
+          c.requires.right.tables;
+      answers = λ k a h. c.requires.right.answers k a
+          (was_same c.args.self.now.known.items c.place_of-place.result c.index_mut.result.now c.push.new.self lt c.index_mut.ensures.value same k a h);
+    }
 
 pub returns-in_err-map_err-clause-kept : goal.returns-in_err-map_err-clause-kept
 returns-in_err-map_err-clause-kept c =
@@ -23,7 +28,14 @@ returns-in_err-map_err-clause-kept c =
     let place : c.place_of-place.result ≡ place_of c.args.self.now.tables.places.items c.args.point = rw c.deref.ensures.value at c.place_of-place.ensures in
     let lt : c.place_of-place.result < length c.args.self.now.known.items = rw (place, c.requires.made.rows) at.0 in
     let same : c.push.new.self.items ≡ c.index_mut.result.now.items = search rules in
-    λ k x (a, (h, e)). (a, (kept_same c.args.self.now.known.items c.place_of-place.result c.index_mut.result.now c.push.new.self lt c.index_mut.ensures.value same k a h, e))
+    λ k x (a, (h, e)). (
+      a,
+      (
+        kept_same c.args.self.now.known.items c.place_of-place.result c.index_mut.result.now c.push.new.self lt c.index_mut.ensures.value
+            same k a h,
+        e,
+      ),
+    )
 
 pub returns-clause-right : goal.returns-clause-right
 returns-clause-right c =
@@ -34,10 +46,14 @@ returns-clause-right c =
     let lt : c.place_of-place.result < length c.args.self.now.known.items = rw (place, c.requires.made.rows) at.0 in
     let one : Answer = record { loc = c.args.loc; defs = c.in_ok-defs.defs } in
     let pushed : c.push.new.self.items ≡ c.index_mut.result.now.items ++ one ∷ [] = search rules in
-    record { tables = c.requires.right.tables; answers = λ k a h. ⊎_elim
-    (λ old. c.requires.right.answers k a old)
-    (λ (e, same). right_more g c.args.locs.now k c.place_of-place.result c.args.point one a (ap (point_at g.points) place ∙ at.1) c.in_ok-defs.ensures.answer e same)
-    (was_more c.args.self.now.known.items c.place_of-place.result c.index_mut.result.now c.push.new.self lt c.index_mut.ensures.value one pushed k a h) }
+    record {
+      tables = c.requires.right.tables;
+      answers = λ k a h. ⊎_elim
+          (λ old. c.requires.right.answers k a old)
+          (λ (e, same). right_more g c.args.locs.now k c.place_of-place.result c.args.point one a (ap (point_at g.points) place ∙ at.1)
+          c.in_ok-defs.ensures.answer e same)
+          (was_more c.args.self.now.known.items c.place_of-place.result c.index_mut.result.now c.push.new.self lt c.index_mut.ensures.value one pushed k a h);
+    }
 
 pub returns-clause-kept : goal.returns-clause-kept
 returns-clause-kept c =
@@ -48,7 +64,14 @@ returns-clause-kept c =
     let lt : c.place_of-place.result < length c.args.self.now.known.items = rw (place, c.requires.made.rows) at.0 in
     let one : Answer = record { loc = c.args.loc; defs = c.in_ok-defs.defs } in
     let pushed : c.push.new.self.items ≡ c.index_mut.result.now.items ++ one ∷ [] = search rules in
-    λ k x (a, (h, e)). (a, (kept_more c.args.self.now.known.items c.place_of-place.result c.index_mut.result.now c.push.new.self lt c.index_mut.ensures.value one pushed k a h, e))
+    λ k x (a, (h, e)). (
+      a,
+      (
+        kept_more c.args.self.now.known.items c.place_of-place.result c.index_mut.result.now c.push.new.self lt c.index_mut.ensures.value
+            one pushed k a h,
+        e,
+      ),
+    )
 
 pub returns-clause-there : goal.returns-clause-there
 returns-clause-there c =

@@ -1,4 +1,4 @@
-use Rattle.std.proofs.Common.{◌≡◌, sym, ◌∙◌, ap, length}
+use Rattle.std.proofs.Common.{sym, ◌∙◌, ap, length}
 use Rattle.flow_domain.proofs.LocLemmas.{length_shown}
 use Rattle.flow_domain.proofs.loc_table.LocTable.count.Goals as goal
 

@@ -19,7 +19,8 @@ loop-k-preserved c =
     let source : c.word_place-source.result ≡ from * words + k = rw c.loop-k.invariant.words_is at c.word_place-source.ensures.place in
     let target : c.word_place-target.result ≡ into * words + k = rw c.loop-k.invariant.words_is at c.word_place-target.ensures.place in
     let read : c.get-word.result ≡ get_or now (from * words + k) 0 = rw source at c.get-word.ensures in
-    let is : c.raise.new.self ≡ set now (into * words + k) (bit_or (get_or now (into * words + k) 0) (get_or now (from * words + k) 0)) = rw (target, read) at c.in_ok-more.ensures.set in
+    let is : c.raise.new.self ≡ set now (into * words + k) (bit_or (get_or now (into * words + k) 0) (get_or now (from * words + k) 0)) = rw (target, read) at
+    c.in_ok-more.ensures.set in
     let up : sum first ≤ sum now = not_less c.loop-k.grew first now c.loop-k.invariant.same c.loop-k.invariant.rose in
     record {
       rows_is = c.loop-k.invariant.rows_is;

@@ -16,7 +16,8 @@ returns-then-place-len c =
     let page = c.index-page.result.now in
     let lt : at < length (flat pages) = subst (λ (xs : List ℕ). at < length xs) (sym c.self.view_is) c.requires in
     let in_page : at % 512 < length page.items = omega (arith, c.if-place-len.true, c.len.ensures, page.ok.0) in
-    subst (λ (xs : List ℕ). c.index.result.now ≡ get_or xs at 0) c.self.view_is (get_in pages c.self.invariant at 0 lt page page c.index-page.ensures c.index.result.now in_page c.index.ensures)
+    subst (λ (xs : List ℕ). c.index.result.now ≡ get_or xs at 0) c.self.view_is
+    (get_in pages c.self.invariant at 0 lt page page c.index-page.ensures c.index.result.now in_page c.index.ensures)
 
 pub returns-else-place-len : goal.returns-else-place-len
 returns-else-place-len c =
