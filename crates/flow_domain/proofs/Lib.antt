@@ -1,3 +1,4 @@
 pub mod KeptLaws
 pub mod FlatCode
 pub mod Shapes
+pub mod LocLemmas

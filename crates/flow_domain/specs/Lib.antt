@@ -8,3 +8,5 @@ pub mod Law
 pub mod Flat
 pub mod Rows
 pub mod Reach
+pub mod LocRows
+pub mod LocTables

@@ -1,8 +1,13 @@
-//! The definitions of the analyses: what is kept, what a cut is, and what a sliced module is. They speak of code, and of no run.
+//! The definitions of the analyses: what is kept, what a cut is, and what a sliced module is; and the tables of what positions read, check and write. They speak of
+//! code, and of no run.
 #![tactic(auto)]
 
 mod flat;
 mod laws;
+mod loc_table;
+mod plain_walk;
 
 pub use flat::{leaves_value, operand_count};
 pub use laws::{law_kept_is_closed, law_kept_is_least};
+pub use loc_table::{LocTable, LocUse};
+pub use plain_walk::plain_locs;

@@ -1,0 +1,10 @@
+pub mod Backwards
+pub mod RunLemmas
+pub mod Placing
+pub mod Writing
+pub mod Answering
+pub mod Keeping
+pub mod Indexing
+pub mod LastWriter
+pub mod PreviousLemmas
+pub mod CfgLemmas

@@ -1,0 +1,7 @@
+pub mod Answers
+pub mod Places
+pub mod PlacesLaws
+pub mod Previous
+pub mod Writers
+pub mod Tables
+pub mod Kept

@@ -1,0 +1,14 @@
+//! Which definitions of a location reach a point of a body.
+#![tactic(auto)]
+
+mod back;
+mod defs;
+mod kept;
+mod places;
+mod runs;
+mod search;
+mod tables;
+mod writers;
+
+pub use kept::Reach;
+pub use search::reaching;

@@ -1,0 +1,10 @@
+pub mod Meeting
+pub mod Searching
+pub mod Listing
+pub mod Gaining
+pub mod Spreading
+pub mod Pushing
+pub mod Rows
+pub mod Reaching
+pub mod Settling
+pub mod Stepping
