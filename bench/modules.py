@@ -98,3 +98,59 @@ def one_custom_section(size):
         if len(number(contents)) == length:
             return HEADER + section(0, b"\x01x" + b"\0" * (contents - 2))
     raise ValueError(size)
+
+
+def many_locals(sets, locals_=8192):
+    """One function `() -> ()` with so many locals, which sets them in turn, each to 1, and reads the first: two positions a set, and two more."""
+    code = bytearray()
+    for place in range(sets):
+        code += b"\x41\x01\x21" + number(place % locals_)
+    code += b"\x20\x00\x1a"
+    body = counted([number(locals_) + b"\x7f"]) + bytes(code) + b"\x0b"
+    return HEADER + section(1, counted([b"\x60\x00\x00"])) + section(3, counted([b"\0"])) + section(10, counted([sized(body)]))
+
+
+def largest_function(bytes_):
+    """The number of the function whose body has most bytes, imported functions counted; none where there is no body."""
+
+    def read(at):
+        value = shift = 0
+        while True:
+            byte = bytes_[at]
+            value |= (byte & 127) << shift
+            at, shift = at + 1, shift + 7
+            if byte < 128:
+                return value, at
+
+    def name(at):
+        size, at = read(at)
+        return at + size
+
+    def limits(at):
+        has_most = bytes_[at] & 1
+        _, at = read(at + 1)
+        return read(at)[1] if has_most else at
+
+    at, imported, found = 8, 0, None
+    while at < len(bytes_):
+        identity = bytes_[at]
+        size, at = read(at + 1)
+        end = at + size
+        if identity == 2:
+            count, at = read(at)
+            for _ in range(count):
+                at = name(name(at))
+                kind, at = bytes_[at], at + 1
+                imported += kind == 0
+                at = {0: lambda at: read(at)[1], 1: lambda at: limits(at + 1), 2: limits, 3: lambda at: at + 2}[kind](at)
+        elif identity == 10:
+            count, at = read(at)
+            sizes = []
+            for _ in range(count):
+                size, at = read(at)
+                sizes.append(size)
+                at += size
+            if sizes:
+                found = imported + max(range(count), key=sizes.__getitem__)
+        at = end
+    return found

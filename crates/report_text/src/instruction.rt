@@ -6,7 +6,9 @@ ghost use Rattle.report_text.specs.InstructionTexts.{instruction_text, number_af
 
 use itoa::Buffer;
 use std::alloc::AllocError;
-use wasm_types::{BinOp, Instr, LoadOp, LowOp, MemArg, NumOp, RelOp, StoreOp, UnOp, ValType, Width};
+use wasm_types::{
+    BinOp, Instr, LoadOp, LowOp, MemArg, NumOp, RelOp, StoreOp, UnOp, ValType, Width,
+};
 
 /// The name of a type.
 fn type_name(kind: ValType) -> &'static str
@@ -196,7 +198,11 @@ fn push_access(out: &mut Vec<u8>, name: &str, place: MemArg) -> Result<(), Alloc
 }
 
 /// Adds a name, and the type of a block, loop or if where it has a result.
-pub(crate) fn push_block(out: &mut Vec<u8>, name: &str, kind: Option<ValType>) -> Result<(), AllocError>
+pub(crate) fn push_block(
+    out: &mut Vec<u8>,
+    name: &str,
+    kind: Option<ValType>,
+) -> Result<(), AllocError>
     ensures { OnOk result (out.new.items ≡ out.old.items ++ texts.block_text name.now kind) }
 {
     push_text(out, name)?;
@@ -251,8 +257,16 @@ pub(crate) fn push_instruction(out: &mut Vec<u8>, instr: &Instr) -> Result<(), A
         Instr::Store(op, place) => push_access(out, store_name(*op), *place),
         Instr::MemorySize => push_text(out, "memory.size"),
         Instr::MemoryGrow => push_text(out, "memory.grow"),
-        Instr::I32Const(n) => push_constant(out, "i32.const ", Buffer::new().format(n.cast_signed())),
-        Instr::I64Const(n) => push_constant(out, "i64.const ", Buffer::new().format(n.cast_signed())),
+        Instr::I32Const(n) => push_constant(
+            out,
+            "i32.const ",
+            Buffer::new().format(n.cast_signed()),
+        ),
+        Instr::I64Const(n) => push_constant(
+            out,
+            "i64.const ",
+            Buffer::new().format(n.cast_signed()),
+        ),
         Instr::Num(op) => push_operation(out, *op),
         Instr::Float(_) => Ok(()),
         Instr::MemoryCopy => push_text(out, "memory.copy"),

@@ -283,7 +283,15 @@ fn push_instr(
         }
         Instr::If(kind, first, second) => {
             push_opening(out, names, "if", *kind, at, depth)?;
-            push_arms(alloc, out, names, first.as_slice(), second.as_slice(), at, depth)
+            push_arms(
+                alloc,
+                out,
+                names,
+                first.as_slice(),
+                second.as_slice(),
+                at,
+                depth,
+            )
         }
         _ => {
             push_plain(out, names, instr, at, depth)?;

@@ -18,9 +18,13 @@ pub enum Outcome {
         in_start: bool,
     },
     /// Element segment `k` doesn't fit the table.
-    ElemOut { k: u32 },
+    ElemOut {
+        k: u32,
+    },
     /// Data segment `k` doesn't fit the memory.
-    DataOut { k: u32 },
+    DataOut {
+        k: u32,
+    },
 }
 
 /// A value as its unsigned number.
