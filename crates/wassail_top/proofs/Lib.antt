@@ -13,3 +13,4 @@ mod SomeAdmission
 mod SomeDecoding
 mod SomeSlice
 mod SomeAnswer
+pub mod NoCode

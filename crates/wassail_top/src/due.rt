@@ -130,7 +130,7 @@ fn answer_list(alloc: Global, valid: &ValidModule, func: u32) -> Result<Reply, N
     requires admitted { IsAdmitted valid.now }
     ensures { IfOk result (λ reply. reply_answer reply ≡ unless_refused (why_no_code valid.now func) (bytes_alone (listing valid.now func))) }
 {
-    if let Some(cause) = code_refusal(valid.module(), func) {
+    if let Some(cause) = code_refusal(valid, func) {
         return refuse(alloc, Refusal::Query(cause));
     }
     let names = names(alloc, valid, func)?;

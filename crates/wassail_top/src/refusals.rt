@@ -1,13 +1,12 @@
 //! The refusals that the ends of the layers below are: none where an allocation was refused.
 
 ghost use Rattle.std.specs.Prelude.{◌≡◌};
-ghost use Rattle.wasm_types.specs.Validity.{IsValid};
 ghost use Rattle.wassail_top.specs.Refusals.{why_no_code, why_not_admitted, why_not_decoded, why_not_sliced};
 
 use report_text::{ModuleRefusal, QueryRefusal};
 use slice_whole::SliceRefusal;
 use wasm_decode::DecodeEnd;
-use wasm_types::Module;
+use wasm_types::ValidModule;
 use wasm_validate::AdmitEnd;
 
 /// Why bytes are refused that do not decode.
@@ -37,10 +36,10 @@ pub fn admit_refusal(end: AdmitEnd) -> Option<ModuleRefusal>
 }
 
 /// Why nothing can be told of the code of function `func`: there is no such function, or it is imported.
-pub fn code_refusal(m: &Module, func: u32) -> Option<QueryRefusal>
-    requires valid { IsValid m.now }
+pub fn code_refusal(m: &ValidModule, func: u32) -> Option<QueryRefusal>
     ensures { result ≡ why_no_code m.now func }
 {
+    let m = m.module();
     if func >= m.func_count() {
         return Some(QueryRefusal::NoFunction { func });
     }
