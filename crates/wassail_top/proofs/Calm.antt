@@ -56,6 +56,13 @@ not_fault : (words : List (List ℕ)) (old new : Option (List ℕ)) (answer : An
 not_fault words old new answer (inl refused) = λ e. let two : answer.status ≡ 2 = ap (λ (a : Answer). a.status) refused.1 in omega arith
 not_fault words old new answer (inr (order, named, h)) = (calm_order order old new answer h).no_read_fault
 
+-- none tells that a write failed
+pub not_write_fault : (words : List (List ℕ)) (old new : Option (List ℕ)) (before now : ℕ) (answer : Answer) → IsDue words old new before now answer
+    → answer.status ≢ 4
+not_write_fault words old new before now answer (inl (inl refused)) = λ e. let two : answer.status ≡ 2 = ap (λ (a : Answer). a.status) refused.1 in omega arith
+not_write_fault words old new before now answer (inl (inr (order, named, h))) = (calm_order order old new answer h).no_write_fault
+not_write_fault words old new before now answer (inr failed) = λ e. let three : answer.status ≡ 3 = ap (λ (a : Answer). a.status) failed.3 in omega arith
+
 -- where the status is 3, a read failed
 pub read_failed : (words : List (List ℕ)) (old new : Option (List ℕ)) (before now : ℕ) (out_old out_new err_old err_new : Option (List ℕ)) (answer : Answer)
     → IsDue words old new before now answer → GaveAll out_old out_new err_old err_new answer → answer.status ≡ 3

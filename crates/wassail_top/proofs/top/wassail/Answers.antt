@@ -2,7 +2,7 @@ use Rattle.std.proofs.Common.{inl, ◌∙◌, map, sym}
 use Rattle.std.specs.String.{string_bytes}
 use Rattle.wasm_validate.specs.Admission.{IsAdmitted}
 use Rattle.wassail_top.specs.Reply.{reply_answer}
-use Rattle.wassail_top.proofs.Calm.{read_failed, refused_words, only_refused_words}
+use Rattle.wassail_top.proofs.Calm.{not_write_fault, read_failed, refused_words, only_refused_words}
 use Rattle.wassail_top.proofs.Complete.{succeeds}
 use Rattle.wassail_top.proofs.HeadlineLemmas.{headline}
 use Rattle.wassail_top.proofs.top.wassail.Goals as goal
@@ -11,6 +11,11 @@ pub returns-in-Ok-deliver-clause-read_fault : goal.returns-in-Ok-deliver-clause-
 returns-in-Ok-deliver-clause-read_fault g c =
     λ three. read_failed (map string_bytes c.args.words.now) _ _ _ _ _ _ _ _ (reply_answer c.in-Ok.reply) c.in-Ok.ensures.due c.in-Ok-deliver.ensures.all
     (sym c.code-in-Ok-deliver.ensures ∙ three)
+
+pub returns-in-Ok-deliver-clause-write_fault : goal.returns-in-Ok-deliver-clause-write_fault
+returns-in-Ok-deliver-clause-write_fault g c =
+    λ four. absurd (not_write_fault (map string_bytes c.args.words.now) _ _ _ _ (reply_answer c.in-Ok.reply) c.in-Ok.ensures.due
+    (sym c.code-in-Ok-deliver.ensures ∙ four))
 
 pub returns-in-Ok-deliver-clause-words : goal.returns-in-Ok-deliver-clause-words
 returns-in-Ok-deliver-clause-words g c =
