@@ -22,7 +22,7 @@ use Rattle.control_deps.proofs.SpotLemmas.{length_spots}
 
 -- ---- code whose single instructions hold no others
 
-abbrev Leafy : Code → Type 0
+abbrev pub Leafy : Code → Type 0
 Leafy done = Unit {0}
 Leafy (one op rest) = (is_plain op ≡ true) × Leafy rest
 Leafy (block kind body rest) = Leafy body × Leafy rest
@@ -42,7 +42,7 @@ mutual
   leafy_row end_of-Instr = tt
   leafy_row (more_of-Instr i rest) = leafy_onto i (code_of_row rest) (leafy_row rest)
 
-leafy_code : (is : List Instr) → Leafy (code_of is)
+pub leafy_code : (is : List Instr) → Leafy (code_of is)
 leafy_code [] = tt
 leafy_code (i ∷ is) = leafy_onto i (code_of is) (leafy_code is)
 
@@ -58,29 +58,29 @@ code_back (branch k x y rest) l =
     ∙ ap₂ {A = Code} {B = Code} (λ a b. branch k x a b) (code_back y l.1) (code_back rest l.2)
 
 -- how many positions an instruction takes
-abbrev span : Instr → ℕ
+abbrev pub span : Instr → ℕ
 span i = count (onto i done)
 
-span_one : (i : Instr) → is_plain i ≡ true → span i ≡ 1
+pub span_one : (i : Instr) → is_plain i ≡ true → span i ≡ 1
 span_one i plain = ap count (onto-one i done plain)
 
-span_block : (k : Option ValType) (inner : Code) → Leafy inner → span (v.Block k (list_of inner)) ≡ 1 + count inner
+pub span_block : (k : Option ValType) (inner : Code) → Leafy inner → span (v.Block k (list_of inner)) ≡ 1 + count inner
 span_block k inner l = ap count (onto-block k (list_of inner) done) ∙ omega (arith, ap count (code_back inner l))
 
-span_loop : (k : Option ValType) (inner : Code) → Leafy inner → span (v.Loop k (list_of inner)) ≡ 1 + count inner
+pub span_loop : (k : Option ValType) (inner : Code) → Leafy inner → span (v.Loop k (list_of inner)) ≡ 1 + count inner
 span_loop k inner l = ap count (onto-loop k (list_of inner) done) ∙ omega (arith, ap count (code_back inner l))
 
-span_if : (k : Option ValType) (x y : Code) → Leafy x → Leafy y → span (v.If k (list_of x) (list_of y)) ≡ 1 + count x + count y
+pub span_if : (k : Option ValType) (x y : Code) → Leafy x → Leafy y → span (v.If k (list_of x) (list_of y)) ≡ 1 + count x + count y
 span_if k x y l r = ap count (onto-if k (list_of x) (list_of y) done) ∙ omega (arith, ap count (code_back x l), ap count (code_back y r))
 
 -- ---- places in lists
 
-get_front : {A : Type 0} (xs ys : List A) (k : ℕ) → k < length xs → slice_get (xs ++ ys) k ≡ slice_get xs k
+pub get_front : {A : Type 0} (xs ys : List A) (k : ℕ) → k < length xs → slice_get (xs ++ ys) k ≡ slice_get xs k
 get_front [] ys k lt = absurd (omega arith)
 get_front (x ∷ xs) ys zero lt = refl
 get_front (x ∷ xs) ys (suc k) lt = get_front xs ys k (omega arith)
 
-get_back : {A : Type 0} (xs ys : List A) (k n : ℕ) → k ≡ length xs + n → slice_get (xs ++ ys) k ≡ slice_get ys n
+pub get_back : {A : Type 0} (xs ys : List A) (k n : ℕ) → k ≡ length xs + n → slice_get (xs ++ ys) k ≡ slice_get ys n
 get_back [] ys k n e = ap (slice_get ys) (let f : k ≡ n = omega arith in f)
 get_back (x ∷ xs) ys zero n e = absurd (omega arith)
 get_back (x ∷ xs) ys (suc k) n e = get_back xs ys k n (omega arith)

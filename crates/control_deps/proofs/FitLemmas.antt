@@ -70,11 +70,11 @@ abbrev pub HasAt : List Spot → ℕ → List Spot → Type 0
 HasAt nest p [] = Unit {0}
 HasAt nest p (x ∷ xs) = (slice_get nest p ≡ Some x) × HasAt nest (p + 1) xs
 
-has_front : (nest : List Spot) (p : ℕ) (xs ys : List Spot) → HasAt nest p (xs ++ ys) → HasAt nest p xs
+pub has_front : (nest : List Spot) (p : ℕ) (xs ys : List Spot) → HasAt nest p (xs ++ ys) → HasAt nest p xs
 has_front nest p [] ys h = tt
 has_front nest p (x ∷ xs) ys h = (h.0, has_front nest (p + 1) xs ys h.1)
 
-has_back : (nest : List Spot) (p q : ℕ) (xs ys : List Spot) → q ≡ p + length xs → HasAt nest p (xs ++ ys) → HasAt nest q ys
+pub has_back : (nest : List Spot) (p q : ℕ) (xs ys : List Spot) → q ≡ p + length xs → HasAt nest p (xs ++ ys) → HasAt nest q ys
 has_back nest p q [] ys e h = let f : p ≡ q = omega arith in subst (λ z. HasAt nest z ys) f h
 has_back nest p q (x ∷ xs) ys e h = has_back nest (p + 1) q xs ys (omega arith) h.1
 
@@ -88,7 +88,7 @@ has_itself (x ∷ xs) = (refl, shifted x xs xs 0 (has_itself xs))
 
 -- ---- dead code
 
-abbrev AreDead : List Spot → Type 0
+abbrev pub AreDead : List Spot → Type 0
 AreDead [] = Unit {0}
 AreDead (x ∷ xs) = (x.live ≡ false) × AreDead xs
 
@@ -100,7 +100,7 @@ and_false : (b : Bool) → (b && false) ≡ false
 and_false true = refl
 and_false false = refl
 
-dead_spots : (around : Option Pos) (depth : ℕ) (c : Code) (p : ℕ) → AreDead (spots_in false around depth c p)
+pub dead_spots : (around : Option Pos) (depth : ℕ) (c : Code) (p : ℕ) → AreDead (spots_in false around depth c p)
 dead_spots around depth done p = tt
 dead_spots around depth (one i rest) p = (refl, subst (λ b. AreDead (spots_in b around depth rest (p + 1))) (sym (and_false (goes_on i))) (dead_spots around depth rest (p + 1)))
 dead_spots around depth (block kind inner rest) p =

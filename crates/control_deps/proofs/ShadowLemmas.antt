@@ -75,7 +75,7 @@ abbrev pub is_branch : Form → Bool
 is_branch (form.Branch m) = true
 is_branch _ = false
 
-branch_form : (h : Head) (l : ℕ) → Branches h l → is_branch (form_of_head h) ≡ true
+pub branch_form : (h : Head) (l : ℕ) → Branches h l → is_branch (form_of_head h) ≡ true
 branch_form (DoHead op) l b = absurd b
 branch_form (BlockHead kind) l b = absurd b
 branch_form (LoopHead kind) l b = absurd b
@@ -99,7 +99,7 @@ if_head UnreachableHead e = absurd cc
 
 -- ---- along the labels
 
-stops_rise : (ctx : List Label) (low k m : ℕ) → RisesFrom low ctx → k ≤ m → m < length ctx → (low ≤ stop_of ctx k) × (stop_of ctx k ≤ stop_of ctx m)
+pub stops_rise : (ctx : List Label) (low k m : ℕ) → RisesFrom low ctx → k ≤ m → m < length ctx → (low ≤ stop_of ctx k) × (stop_of ctx k ≤ stop_of ctx m)
 stops_rise [] low k m r le lt = absurd (omega arith)
 stops_rise (L ∷ ctx) low zero zero r le lt = (r.0, omega arith)
 stops_rise (L ∷ ctx) low (suc k) zero r le lt = absurd (omega arith)

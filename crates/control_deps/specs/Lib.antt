@@ -2,3 +2,5 @@ pub mod Spots
 pub mod Nest
 pub mod Chain
 pub mod Deciders
+pub mod Leaving
+pub mod Nearest
