@@ -94,7 +94,7 @@ record Holds (is : List Instr) (b q : ℕ) : Type 0 where
   inside : q < b + span instr
 
 -- no instruction reaches past the end
-abbrev Closed : List Instr → Type 0
+abbrev pub Closed : List Instr → Type 0
 Closed is = (b : ℕ) (i : Instr) → slice_get is b ≡ Some i → b + span i ≤ length is
 
 closed_append : (xs ys : List Instr) → Closed xs → Closed ys → Closed (xs ++ ys)
@@ -227,7 +227,7 @@ told_none is p around q x e = absurd cc
 closed_none : Closed []
 closed_none b i e = absurd cc
 
-closed_in : (c : Code) → Leafy c → Closed (flatten c)
+pub closed_in : (c : Code) → Leafy c → Closed (flatten c)
 closed_in done l = closed_none
 closed_in (one i rest) l = closed_append (i ∷ []) (flatten rest) (closed_cons i [] (span_one i l.0) closed_none) (closed_in rest l.1)
 closed_in (block k inner rest) l =

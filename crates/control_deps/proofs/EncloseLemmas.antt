@@ -16,7 +16,7 @@ use Rattle.control_deps.specs.Nest.{Encloses, IsAround, IsNestOf}
 use Rattle.control_deps.proofs.SpotLemmas.{length_spots}
 use Rattle.control_deps.proofs.FitLemmas.{HasAt, has_front, has_back, has_itself, AreDead, dead_spots}
 use Rattle.control_deps.proofs.ShadowLemmas.{is_branch}
-use Rattle.control_deps.proofs.AroundLemmas.{Leafy, leafy_code, span, span_one, span_block, span_loop, span_if, is_around}
+use Rattle.control_deps.proofs.AroundLemmas.{Leafy, leafy_code, span, span_one, span_block, span_loop, span_if, closed_in, is_around}
 
 -- ---- where instructions end
 
@@ -164,6 +164,14 @@ module _ (body : Body) (nest : List Spot) (is : IsNestOf body nest) where
   sized k x e =
       let c = code_of body.code in
       sized_at 0 k (flatten c) (spots_in true None 0 c 0) k x (omega arith) (sized_in true None 0 c 0 (leafy_code body.code)) (ap (λ z. slice_get z k) (sym is.is) ∙ e)
+
+  -- nothing ends behind the body
+  pub stop_within : (k : ℕ) (x : Spot) → slice_get nest k ≡ Some x → x.stop ≤ length nest
+  stop_within k x e =
+      let c = code_of body.code in
+      let s = sized k x e in
+      let within = closed_in c (leafy_code body.code) k s.0 s.1.0 in
+      omega (arith, within, s.1.1.stop, length-flatten c, length_spots true None 0 c 0, ap length is.is)
 
   pub around_spot : (q : ℕ) (x : Spot) (b : Pos) → slice_get nest q ≡ Some x → x.around ≡ Some b → Around nest q b
   around_spot q x b e some =

@@ -4,5 +4,6 @@ pub mod ShadowLemmas
 pub mod AroundLemmas
 pub mod DeciderLemmas
 pub mod EncloseLemmas
+pub mod FindLemmas
 pub mod LeaveLemmas
 pub mod NearLemmas

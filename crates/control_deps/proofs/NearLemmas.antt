@@ -21,12 +21,12 @@ use Rattle.control_deps.specs.declared.spot.Form.TheVariants as form
 use Rattle.control_deps.specs.declared.spot.Spot.{Spot}
 use Rattle.control_deps.specs.Chain.{is_loop, live_at, IsChain}
 use Rattle.control_deps.specs.Leaving.{number, Passes, here, outward, Leaves, IsLast, exit_of, AreExits, loops_at, loop_around, row_of, AreRows}
-use Rattle.control_deps.specs.Nearest.{earlier, latest, around as directly, own_join, Finds, itself, onward, AreNearestAt, AreNearest, Table, latest_in, nearest_of_row, nearest_in}
-use Rattle.control_deps.specs.Nest.{IsAround, IsNestOf}
+use Rattle.control_deps.specs.Nearest.{earlier, latest, own_join, Finds, itself, onward, AreNearestAt, AreNearest, Table, latest_in, nearest_of_row, nearest_in}
+use Rattle.control_deps.specs.Nest.{IsNestOf}
 use Rattle.control_deps.proofs.FitLemmas.{IsFit, fits_at, site_spot, form_of_head, within_inside}
 use Rattle.control_deps.proofs.ShadowLemmas.{furthest, is_branch, branch_form, stops_rise, live_has, spot_fits, fit_of}
-use Rattle.control_deps.proofs.AroundLemmas.{is_around}
-use Rattle.control_deps.proofs.EncloseLemmas.{spot_at, around_spot, inner_around, around_live}
+use Rattle.control_deps.proofs.EncloseLemmas.{spot_at, around_spot, inner_around}
+use Rattle.control_deps.proofs.FindLemmas.{finds_on, live_around, go_around, climb}
 use Rattle.control_deps.proofs.LeaveLemmas.{number_once}
 
 -- ---- labels
@@ -117,10 +117,6 @@ row_live nest exits x live = rw live (refl, refl)
 
 row_dead : (nest : List Spot) (exits : List (Option Pos)) (x : Spot) → x.live ≡ false → ((row_of nest exits x).earlier ≡ None) × ((row_of nest exits x).inside ≡ None)
 row_dead nest exits x dead = rw dead (refl, refl)
-
-finds_on : (c : Code) (near : Node → Nearest) (n m k : Node) → Finds c near n m → Finds c near m k → Finds c near n k
-finds_on c near n m k f itself = f
-finds_on c near n m k f (onward j g s) = onward j (finds_on c near n m j f g) s
 
 -- ---- where branches lead
 
@@ -295,25 +291,6 @@ module _ (body : Body) (nest : List Spot) (is : IsNestOf body nest) where
           let r = row_at q x at in
           ap (λ (z : Option Row). (nearest_of_row exits z).latest) r.1.1 ∙ ap (latest_in exits) ((row_live nest r.0 x live).1 ∙ loop_is b y x.around some at_b loop)
 
-      go_around : (q : ℕ) (x : Spot) (b : Pos) → slice_get nest q ≡ Some x → x.around ≡ Some b → Finds code near (At q) (At b.0)
-      go_around q x b at some = onward (At q) itself (directly b (subst (IsAround code q) some (is_around body nest q x is at)))
-
-      -- what is around a position is found from it
-      climb : (f k q : ℕ) (y x : Spot) → q < f → slice_get nest k ≡ Some y → k < q → q < y.stop → slice_get nest q ≡ Some x → Finds code near (At q) (At k)
-      climb zero k q y x lt at_k lo hi at = absurd (omega arith)
-      climb (suc f) k q y x lt at_k lo hi at =
-          let a = inner_around body nest is k y q x at_k lo hi at in
-          let b = around_spot body nest is q x a.0 at a.1.0 in
-          let step = go_around q x a.0 at a.1.0 in
-          ⊎_elim
-          (λ (eq : k ≡ a.0.0). subst (λ z. Finds code near (At q) (At z)) (sym eq) step)
-          (λ (ne : k ≢ a.0.0). finds_on code near (At q) (At a.0.0) (At k) step (climb f k a.0.0 y b.spot (omega (arith, lt, b.before)) at_k (omega (arith, a.1.1, ne)) (omega (arith, b.before, hi)) b.at))
-          (cases_eq k a.0.0)
-
-      -- what is around a live position is live
-      live_around : (q : ℕ) (x : Spot) (b : Pos) (y : Spot) → slice_get nest q ≡ Some x → x.live ≡ true → x.around ≡ Some b → slice_get nest b.0 ≡ Some y → y.live ≡ true
-      live_around q x b y at live some at_b = ap live_at (sym at_b) ∙ around_live body nest is q x b at live some
-
       -- each branch before a position below f that leaves what goes on behind it is found
       abbrev Backs : ℕ → Type 0
       Backs f =
@@ -342,8 +319,8 @@ module _ (body : Body) (nest : List Spot) (is : IsNestOf body nest) where
               (λ (eq : p ≡ b.0).
               let same : l.spot ≡ a.spot = same_Some l.spot a.spot (sym l.at ∙ ap (slice_get nest) eq ∙ a.at) in
               absurd (a.holds (ap (λ (z : Spot). is_branch z.form) (sym same) ∙ ap is_branch l.branches)))
-              (λ (ne : p ≢ b.0). finds_on code near (At q) (At b.0) (At p) (go_around q x b at some)
-              (before p b.0 e one a.spot (omega (arith, lt, a.before)) l end (omega (arith, le, ne)) (omega (arith, a.before, hi)) a.at (live_around q x b a.spot at live some a.at)))
+              (λ (ne : p ≢ b.0). finds_on code near (At q) (At b.0) (At p) (go_around body nest is near q x b at some)
+              (before p b.0 e one a.spot (omega (arith, lt, a.before)) l end (omega (arith, le, ne)) (omega (arith, a.before, hi)) a.at (live_around body nest is q x b a.spot at live some a.at)))
               (cases_eq p b.0))
               (cases_lt b.0 p)
 
@@ -375,8 +352,8 @@ module _ (body : Body) (nest : List Spot) (is : IsNestOf body nest) where
           (λ (eq : b.0 ≡ a.0.0).
           let same : a.0 ≡ b = same_Some a.0 b (number_once (Some a.0) (Some b) (omega (arith, eq))) in
           from_last (At q) (Some b) p l (slice_get_within nest b.0 y at_b) (latest_is q x b y at live (a.1.0 ∙ ap (λ (z : Pos). Some z) same) at_b loop))
-          (λ (ne : b.0 ≢ a.0.0). finds_on code near (At q) (At a.0.0) (At p) (go_around q x a.0 at a.1.0)
-          (in_loop f p a.0.0 b y c.spot (omega (arith, lt, c.before)) at_b loop l (omega (arith, a.1.1, ne)) (omega (arith, c.before, hi)) c.at (live_around q x a.0 c.spot at live a.1.0 c.at)))
+          (λ (ne : b.0 ≢ a.0.0). finds_on code near (At q) (At a.0.0) (At p) (go_around body nest is near q x a.0 at a.1.0)
+          (in_loop f p a.0.0 b y c.spot (omega (arith, lt, c.before)) at_b loop l (omega (arith, a.1.1, ne)) (omega (arith, c.before, hi)) c.at (live_around body nest is q x a.0 c.spot at live a.1.0 c.at)))
           (cases_eq b.0 a.0.0)
 
       -- ---- whatever has a node in its shadow is found
@@ -422,7 +399,7 @@ module _ (body : Body) (nest : List Spot) (is : IsNestOf body nest) where
       all p n (arms kind s there h i) =
           let x = site_spot nest (slice_get nest p) (slice_get S p) s (fits_at nest nest S p fit) there in
           let t = stands (p + 1) s.stop n i in
-          finds_on code near n (At t.pos) (At p) t.finds (climb (suc t.pos) p t.pos x.0 t.spot (omega arith) x.1.0 (omega (arith, t.low)) (omega (arith, t.high, x.1.1.stop)) t.at)
+          finds_on code near n (At t.pos) (At p) t.finds (climb body nest is near (suc t.pos) p t.pos x.0 t.spot (omega arith) x.1.0 (omega (arith, t.low)) (omega (arith, t.high, x.1.1.stop)) t.at)
       all p n (if_join kind s there h) = onward (Join p) itself own_join
       all p n (later l s there br i) =
           let k = left_by p l l s there br (omega arith) in
