@@ -1,5 +1,6 @@
 -- What stands inside what, by what is kept of positions.
-use Rattle.std.proofs.Common.{◌≡◌, ℕ, zero, suc, ◌+◌, ◌≤◌, ◌<◌, ◌&&◌, Bool, true, false, true≢false, List, [], ◌∷◌, ◌++◌, Option, Some, None, IfSome, length, refl, sym, ap, ◌∙◌, subst, arith, length-append}
+use Rattle.std.proofs.Common.{◌≡◌, ℕ, zero, suc, ◌+◌, ◌≤◌, ◌<◌, ◌&&◌, Bool, true, false, true≢false, List, [], ◌∷◌, ◌++◌, Option, Some, None, IfSome}
+use Rattle.std.proofs.Common.{length, refl, sym, ap, ◌∙◌, subst, arith, length-append}
 use Rattle.std.specs.List.{slice_get}
 use Rattle.std.proofs.lemmas.List.{append_assoc}
 use Rattle.std.proofs.lemmas.Option.{same_Some, slice_get_within}
@@ -46,14 +47,16 @@ sized_in live around depth (block k inner rest) p l =
     let I = spots_in live (Some (place p)) (depth + 1) inner (p + 1) in
     let long : e ≡ p + 1 + length I = omega (arith, length_spots live (Some (place p)) (depth + 1) inner (p + 1)) in (
       record { stop = omega (arith, span_block k inner l.0); leaf = λ b. absurd (true≢false (sym b)) },
-      sized_append (p + 1) e (flatten inner) (flatten rest) I (spots_in live around depth rest e) long (sized_in live (Some (place p)) (depth + 1) inner (p + 1) l.0) (sized_in live around depth rest e l.1),
+      sized_append (p + 1) e (flatten inner) (flatten rest) I (spots_in live around depth rest e) long
+          (sized_in live (Some (place p)) (depth + 1) inner (p + 1) l.0) (sized_in live around depth rest e l.1),
     )
 sized_in live around depth (repeat k inner rest) p l =
     let e = p + 1 + count inner in
     let I = spots_in live (Some (place p)) (depth + 1) inner (p + 1) in
     let long : e ≡ p + 1 + length I = omega (arith, length_spots live (Some (place p)) (depth + 1) inner (p + 1)) in (
       record { stop = omega (arith, span_loop k inner l.0); leaf = λ b. absurd (true≢false (sym b)) },
-      sized_append (p + 1) e (flatten inner) (flatten rest) I (spots_in live around depth rest e) long (sized_in live (Some (place p)) (depth + 1) inner (p + 1) l.0) (sized_in live around depth rest e l.1),
+      sized_append (p + 1) e (flatten inner) (flatten rest) I (spots_in live around depth rest e) long
+          (sized_in live (Some (place p)) (depth + 1) inner (p + 1) l.0) (sized_in live around depth rest e l.1),
     )
 sized_in live around depth (branch k x y rest) p l =
     let f = p + 1 + count x in
@@ -64,7 +67,8 @@ sized_in live around depth (branch k x y rest) p l =
     let long_x : f ≡ p + 1 + length X = omega (arith, length_spots live (Some (place p)) (depth + 1) x (p + 1)) in
     let long : e ≡ p + 1 + length (X ++ Y) =
     omega (arith, length_spots live (Some (place p)) (depth + 1) x (p + 1), length_spots live (Some (place p)) (depth + 1) y f, length-append X Y) in
-    let inner = sized_append (p + 1) f (flatten x) (flatten y) X Y long_x (sized_in live (Some (place p)) (depth + 1) x (p + 1) l.0) (sized_in live (Some (place p)) (depth + 1) y f l.1) in (
+    let inner = sized_append (p + 1) f (flatten x) (flatten y) X Y long_x (sized_in live (Some (place p)) (depth + 1) x (p + 1) l.0)
+    (sized_in live (Some (place p)) (depth + 1) y f l.1) in (
       record { stop = omega (arith, span_if k x y l.0 l.1); leaf = λ b. absurd (true≢false (sym b)) },
       subst (AreSized (p + 1) ((flatten x ++ flatten y) ++ flatten rest)) (append_assoc X Y R)
           (sized_append (p + 1) e (flatten x ++ flatten y) (flatten rest) (X ++ Y) R long inner (sized_in live around depth rest e l.2)),
@@ -105,7 +109,11 @@ rest_held nest false around depth c p go has = dead_held nest _ (dead_spots arou
 held_in : (nest : List Spot) (around : Option Pos) (depth : ℕ) (c : Code) (p : ℕ) → HasAt nest p (spots_in true around depth c p)
     → IfSome around (λ (b : Pos). live_at (slice_get nest b.0) ≡ true) → AreHeld nest (spots_in true around depth c p)
 held_in nest around depth done p has h = tt
-held_in nest around depth (one i rest) p has h = ((λ on. h), rest_held nest (goes_on i) around depth rest (p + 1) (λ has'. held_in nest around depth rest (p + 1) has' h) has.1)
+held_in nest around depth (one i rest) p has h = (
+  (λ on. h),
+  rest_held nest (goes_on i) around depth rest (p + 1)
+      (λ has'. held_in nest around depth rest (p + 1) has' h) has.1,
+)
 held_in nest around depth (block k inner rest) p has h =
     let e = p + 1 + count inner in
     let I = spots_in true (Some (place p)) (depth + 1) inner (p + 1) in
@@ -163,7 +171,8 @@ module _ (body : Body) (nest : List Spot) (is : IsNestOf body nest) where
   sized : (k : ℕ) (x : Spot) → slice_get nest k ≡ Some x → (i : Instr) × ((slice_get (flatten (code_of body.code)) k ≡ Some i) × IsSized k i x)
   sized k x e =
       let c = code_of body.code in
-      sized_at 0 k (flatten c) (spots_in true None 0 c 0) k x (omega arith) (sized_in true None 0 c 0 (leafy_code body.code)) (ap (λ z. slice_get z k) (sym is.is) ∙ e)
+      sized_at 0 k (flatten c) (spots_in true None 0 c 0) k x (omega arith) (sized_in true None 0 c 0 (leafy_code body.code))
+      (ap (λ z. slice_get z k) (sym is.is) ∙ e)
 
   -- nothing ends behind the body
   pub stop_within : (k : ℕ) (x : Spot) → slice_get nest k ≡ Some x → x.stop ≤ length nest
@@ -181,7 +190,8 @@ module _ (body : Body) (nest : List Spot) (is : IsNestOf body nest) where
       let y = spot_at nest b.0 (omega (arith, lt, length-flatten c, length_spots true None 0 c 0, ap length is.is)) in
       go y.0 y.1 h (sized b.0 y.0 y.1)
     where
-      go : (y : Spot) → slice_get nest b.0 ≡ Some y → Encloses (code_of body.code) b.0 q → (i : Instr) × ((slice_get (flatten (code_of body.code)) b.0 ≡ Some i) × IsSized b.0 i y)
+      go : (y : Spot) → slice_get nest b.0 ≡ Some y → Encloses (code_of body.code) b.0 q
+          → (i : Instr) × ((slice_get (flatten (code_of body.code)) b.0 ≡ Some i) × IsSized b.0 i y)
           → Around nest q b
       go y at h (i, (i_at, s)) =
           let same : i ≡ h.instr = same_Some i h.instr (sym i_at ∙ h.is) in
@@ -194,14 +204,16 @@ module _ (body : Body) (nest : List Spot) (is : IsNestOf body nest) where
           }
 
   -- what ends behind a position and begins before it is around it, or around what is directly around it
-  pub inner_around : (k : ℕ) (y : Spot) (q : ℕ) (x : Spot) → slice_get nest k ≡ Some y → k < q → q < y.stop → slice_get nest q ≡ Some x → (b : Pos) × ((x.around ≡ Some b) × (k ≤ b.0))
+  pub inner_around : (k : ℕ) (y : Spot) (q : ℕ) (x : Spot) → slice_get nest k ≡ Some y → k < q → q < y.stop → slice_get nest q ≡ Some x
+      → (b : Pos) × ((x.around ≡ Some b) × (k ≤ b.0))
   inner_around k y q x e lo hi at =
       let c = code_of body.code in
       let s = sized k y e in
       let h : Encloses c k q = record { instr = s.0; is = s.1.0; behind = lo; inside = omega (arith, s.1.1.stop, hi) } in
       go x.around refl (is_around body nest q x is at) h
     where
-      go : (o : Option Pos) → x.around ≡ o → IsAround (code_of body.code) q o → Encloses (code_of body.code) k q → (b : Pos) × ((x.around ≡ Some b) × (k ≤ b.0))
+      go : (o : Option Pos) → x.around ≡ o → IsAround (code_of body.code) q o → Encloses (code_of body.code) k q
+          → (b : Pos) × ((x.around ≡ Some b) × (k ≤ b.0))
       go None f a h = absurd (a k h)
       go (Some b) f a h = (b, (f, a.1 k h))
 

@@ -27,7 +27,8 @@ finds_on c near n m k f (onward j g s) = onward j (finds_on c near n m j f g) s
 
 module _ (body : Body) (nest : List Spot) (is : IsNestOf body nest) where
   -- what is around a live position is live
-  pub live_around : (q : ℕ) (x : Spot) (b : Pos) (y : Spot) → slice_get nest q ≡ Some x → x.live ≡ true → x.around ≡ Some b → slice_get nest b.0 ≡ Some y → y.live ≡ true
+  pub live_around : (q : ℕ) (x : Spot) (b : Pos) (y : Spot) → slice_get nest q ≡ Some x → x.live ≡ true → x.around ≡ Some b → slice_get nest b.0 ≡ Some y
+      → y.live ≡ true
   live_around q x b y at live some at_b = ap live_at (sym at_b) ∙ around_live body nest is q x b at live some
 
   module _ (near : Node → Nearest) where
@@ -35,7 +36,8 @@ module _ (body : Body) (nest : List Spot) (is : IsNestOf body nest) where
     go_around q x b at some = onward (At q) itself (directly b (subst (IsAround (code_of body.code) q) some (is_around body nest q x is at)))
 
     -- from a position below f, what is around it
-    pub climb : (f k q : ℕ) (y x : Spot) → q < f → slice_get nest k ≡ Some y → k < q → q < y.stop → slice_get nest q ≡ Some x → Finds (code_of body.code) near (At q) (At k)
+    pub climb : (f k q : ℕ) (y x : Spot) → q < f → slice_get nest k ≡ Some y → k < q → q < y.stop → slice_get nest q ≡ Some x
+        → Finds (code_of body.code) near (At q) (At k)
     climb zero k q y x lt at_k lo hi at = absurd (omega arith)
     climb (suc f) k q y x lt at_k lo hi at =
         let c = code_of body.code in

@@ -1,5 +1,6 @@
 -- The walk that writes down the last branch that leaves each block, loop or if.
-use Rattle.std.proofs.Common.{◌≡◌, ◌≢◌, ℕ, suc, ◌+◌, ◌<◌, ◌⊎◌, inl, inr, ⊎_elim, Bool, true, false, true≢false, List, [], ◌∷◌, ◌++◌, Option, Some, None, IfSome, length, set, get_or, rules, refl, sym, ap, ◌∙◌, subst, arith, get_or-set_same, get_or-set_other, length-append}
+use Rattle.std.proofs.Common.{◌≡◌, ◌≢◌, ℕ, suc, ◌+◌, ◌<◌, ◌⊎◌, inl, inr, ⊎_elim, Bool, true, false, true≢false, List, [], ◌∷◌, ◌++◌, Option, Some, None}
+use Rattle.std.proofs.Common.{IfSome, length, set, get_or, rules, refl, sym, ap, ◌∙◌, subst, arith, get_or-set_same, get_or-set_other, length-append}
 use Rattle.std.specs.List.{slice_get}
 use Rattle.std.proofs.lemmas.Bool.{cases_eq, cases_lt}
 use Rattle.std.proofs.lemmas.Option.{same_Some}
@@ -33,7 +34,8 @@ none_passes : (nest : List Spot) (first one : Option Pos) (label : ℕ) → firs
 none_passes nest first one label e here = refl
 none_passes nest first one label e (outward b spot at p) = absurd (cc)
 
-some_passes : (nest : List Spot) (first other : Option Pos) (labels l : ℕ) (b : Pos) (spot : Spot) → first ≡ Some b → slice_get nest b.0 ≡ Some spot → labels ≡ l + 1
+some_passes : (nest : List Spot) (first other : Option Pos) (labels l : ℕ) (b : Pos) (spot : Spot) → first ≡ Some b → slice_get nest b.0 ≡ Some spot
+    → labels ≡ l + 1
     → Passes nest first labels other → (other ≡ first) ⊎ Passes nest spot.around l other
 some_passes nest first other labels l b spot some at e here = inl refl
 some_passes nest first other labels l b spot some at e (outward {label} c y is p) =
@@ -42,7 +44,8 @@ some_passes nest first other labels l b spot some at e (outward {label} c y is p
     let fewer : label ≡ l = omega (arith, e) in
     inr (subst (λ z. Passes nest spot.around z other) fewer (subst (λ (z : Spot). Passes nest z.around label other) spots p))
 
-pub passes_more : (nest : List Spot) (first one : Option Pos) (label l : ℕ) (b : Pos) (spot : Spot) → first ≡ Some b → slice_get nest b.0 ≡ Some spot → label ≡ l + 1
+pub passes_more : (nest : List Spot) (first one : Option Pos) (label l : ℕ) (b : Pos) (spot : Spot) → first ≡ Some b → slice_get nest b.0 ≡ Some spot
+    → label ≡ l + 1
     → Passes nest spot.around l one → Passes nest first label one
 passes_more nest first one label l b spot some at e p =
     let labels : suc l ≡ label = omega (arith, e) in
@@ -50,7 +53,8 @@ passes_more nest first one label l b spot some at e p =
 
 -- ---- what is written down
 
-mark_first : (old : List (Option Pos)) (first : Option Pos) (branch : Pos) → number first < length old → exit_of (set old (number first) (Some branch)) first ≡ Some branch
+mark_first : (old : List (Option Pos)) (first : Option Pos) (branch : Pos) → number first < length old
+    → exit_of (set old (number first) (Some branch)) first ≡ Some branch
 mark_first old first branch lt = get_or-set_same old (number first) (Some branch) None lt
 
 mark_other : (nest : List Spot) (first : Option Pos) (label : ℕ) (branch : Pos) (old : List (Option Pos)) (k : ℕ)
@@ -76,7 +80,8 @@ pub none_marks : (nest : List Spot) (first : Option Pos) (label : ℕ) (branch :
     → new ≡ set old (number first) (Some branch) → Marks nest first label branch old new
 none_marks nest first label branch old new lt e is = last_marks nest first label branch old new lt is (λ one p. none_passes nest first one label e p)
 
-pub more_marks : (nest : List Spot) (first : Option Pos) (label l : ℕ) (branch b : Pos) (spot : Spot) (old mid new : List (Option Pos)) → number first < length old
+pub more_marks : (nest : List Spot) (first : Option Pos) (label l : ℕ) (branch b : Pos) (spot : Spot) (old mid new : List (Option Pos))
+    → number first < length old
     → first ≡ Some b → slice_get nest b.0 ≡ Some spot → label ≡ l + 1 → mid ≡ set old (number first) (Some branch) → Marks nest spot.around l branch mid new
     → Marks nest first label branch old new
 more_marks nest first label l branch b spot old mid new lt some at e is m =
@@ -104,26 +109,10 @@ more_marks nest first label l branch b spot old mid new lt some at e is m =
 pub length_marked : (old : List (Option Pos)) (k : ℕ) (v : Option Pos) (n : ℕ) → length old ≡ n → length (set old k v) ≡ n
 length_marked old k v n e = (let same : length (set old k v) ≡ length old = search rules in same) ∙ e
 
--- ---- a position
-
-pub no_branch : (nest : List Spot) (at : Pos) (spot : Spot) (exits : List (Option Pos)) → ((label : ℕ) → spot.live ≡ true → spot.form ≡ form.Branch label → ⊥) → Sees nest at spot exits exits
-no_branch nest at spot exits none = record { marks = λ label on br. absurd (none label on br); same = λ _. refl }
-
 same_label : (f : Form) (a b : ℕ) → f ≡ form.Branch a → f ≡ form.Branch b → a ≡ b
 same_label f a b e g = cc
 
-pub one_branch : (nest : List Spot) (at : Pos) (spot : Spot) (label : ℕ) (old new : List (Option Pos)) → spot.live ≡ true → spot.form ≡ form.Branch label
-    → Marks nest spot.around label at old new → Sees nest at spot old new
-one_branch nest at spot label old new on br m = record {
-  marks = λ l _ br'. subst (λ z. Marks nest spot.around z at old new) (same_label spot.form label l br br') m;
-  same = λ none. absurd (none label on br);
-}
-
 -- ---- the last of each
-
-last_none : (P : ℕ → Type 0) (o : Option Pos) → o ≡ None → IsLast P 0 o
-last_none P None e = λ p lt h. absurd (omega (arith, lt))
-last_none P (Some b) e = absurd cc
 
 last_same : (P : ℕ → Type 0) (k : ℕ) (o : Option Pos) → (P k → ⊥) → IsLast P k o → IsLast P (k + 1) o
 last_same P k None off last = λ p lt h. ⊎_elim
@@ -144,17 +133,16 @@ last_same P k (Some b) off last = (
 last_new : (P : ℕ → Type 0) (at : Pos) (o : Option Pos) → o ≡ Some at → P at.0 → IsLast P (at.0 + 1) o
 last_new P at o e h = subst (IsLast P (at.0 + 1)) (sym e) (omega arith, (h, (λ p lt _. omega (arith, lt))))
 
-pub no_exits : (nest : List Spot) (exits : List (Option Pos)) → length exits ≡ length nest + 1 → ((k : ℕ) → get_or exits k None ≡ None) → AreExits nest 0 exits
-no_exits nest exits long none = record { long = long; is = λ one h. last_none (Leaves nest one) (exit_of exits one) (none (number one)) }
-
-pub more_exits : (nest : List Spot) (at : Pos) (spot : Spot) (old new : List (Option Pos)) → slice_get nest at.0 ≡ Some spot → Sees nest at spot old new → AreExits nest at.0 old
+pub more_exits : (nest : List Spot) (at : Pos) (spot : Spot) (old new : List (Option Pos)) → slice_get nest at.0 ≡ Some spot → Sees nest at spot old new
+    → AreExits nest at.0 old
     → AreExits nest (at.0 + 1) new
 more_exits nest at spot old new here_is sees e = go spot.live refl spot.form refl
   where
     unseen : ((label : ℕ) → spot.live ≡ true → spot.form ≡ form.Branch label → ⊥) → AreExits nest (at.0 + 1) new
     unseen none = subst (AreExits nest (at.0 + 1)) (sym (sees.same none)) (record {
       long = e.long;
-      is = λ one h. last_same (Leaves nest one) at.0 (exit_of old one) (λ l. none l.label (ap (λ (z : Spot). z.live) (same l) ∙ l.live) (ap (λ (z : Spot). z.form) (same l) ∙ l.branches)) (e.is one h);
+      is = λ one h. last_same (Leaves nest one) at.0 (exit_of old one) (λ l. none l.label (ap (λ (z : Spot). z.live) (same l) ∙ l.live)
+          (ap (λ (z : Spot). z.form) (same l) ∙ l.branches)) (e.is one h);
     })
       where
         same : {one : Option Pos} → (l : Leaves nest one at.0) → spot ≡ l.spot
@@ -170,18 +158,23 @@ more_exits nest at spot old new here_is sees e = go spot.live refl spot.form ref
           (m.only (number one));
     }
       where
-        passed : Marks nest spot.around label at old new → (one : Option Pos) → Passes nest spot.around label one → IsLast (Leaves nest one) (at.0 + 1) (exit_of new one)
-        passed m one p = last_new (Leaves nest one) at (exit_of new one) (m.all one p) (record { spot = spot; label = label; at = here_is; live = on; branches = br; passes = p })
-
-        kept_or_passed : Marks nest spot.around label at old new → (one : Option Pos) → IfSome one (λ (b : Pos). b.0 < length nest) → exit_of new one ≡ exit_of old one
+        passed : Marks nest spot.around label at old new → (one : Option Pos) → Passes nest spot.around label one
             → IsLast (Leaves nest one) (at.0 + 1) (exit_of new one)
-        kept_or_passed m one h kept = subst (IsLast (Leaves nest one) (at.0 + 1)) (sym kept) (last_same (Leaves nest one) at.0 (exit_of old one) off (e.is one h))
+        passed m one p = last_new (Leaves nest one) at (exit_of new one) (m.all one p)
+            (record { spot = spot; label = label; at = here_is; live = on; branches = br; passes = p })
+
+        kept_or_passed : Marks nest spot.around label at old new → (one : Option Pos) → IfSome one (λ (b : Pos). b.0 < length nest)
+            → exit_of new one ≡ exit_of old one
+            → IsLast (Leaves nest one) (at.0 + 1) (exit_of new one)
+        kept_or_passed m one h kept = subst (IsLast (Leaves nest one) (at.0 + 1)) (sym kept)
+            (last_same (Leaves nest one) at.0 (exit_of old one) off (e.is one h))
           where
             off : Leaves nest one at.0 → ⊥
             off l =
                 let spots : l.spot ≡ spot = same_Some l.spot spot (sym l.at ∙ here_is) in
                 let labels : l.label ≡ label = same_label spot.form l.label label (ap (λ (z : Spot). z.form) (sym spots) ∙ l.branches) br in
-                let p : Passes nest spot.around label one = subst (λ z. Passes nest spot.around z one) labels (subst (λ (z : Spot). Passes nest z.around l.label one) spots l.passes) in
+                let p : Passes nest spot.around label one = subst (λ z. Passes nest spot.around z one) labels
+                (subst (λ (z : Spot). Passes nest z.around l.label one) spots l.passes) in
                 let old_is : exit_of old one ≡ Some at = sym kept ∙ m.all one p in
                 let last : IsLast (Leaves nest one) at.0 (Some at) = subst (IsLast (Leaves nest one) at.0) old_is (e.is one h) in
                 omega (arith, last.0)
@@ -196,10 +189,8 @@ more_exits nest at spot old new here_is sees e = go spot.live refl spot.form ref
 
 -- ---- rows
 
-pub no_rows : (nest : List Spot) → AreRows nest 0 []
-no_rows nest = record { long = refl; is = λ p spot lt e. absurd (omega (arith, lt)) }
-
-pub more_rows : (nest : List Spot) (at : ℕ) (spot : Spot) (exits : List (Option Pos)) (old new : List Row) → slice_get nest at ≡ Some spot → AreExits nest at exits
+pub more_rows : (nest : List Spot) (at : ℕ) (spot : Spot) (exits : List (Option Pos)) (old new : List Row) → slice_get nest at ≡ Some spot
+    → AreExits nest at exits
     → new ≡ old ++ row_of nest exits spot ∷ [] → AreRows nest at old → AreRows nest (at + 1) new
 more_rows nest at spot exits old new here_is e is r = subst (AreRows nest (at + 1)) (sym is) (record {
   long = omega (arith, length-append old (row_of nest exits spot ∷ []), r.long);
@@ -210,7 +201,13 @@ more_rows nest at spot exits old new here_is e is r = subst (AreRows nest (at + 
       (λ hi.
       let same : p ≡ at = omega (arith, lt, hi) in
       let spots : spot ≡ x = same_Some spot x (sym here_is ∙ ap (slice_get nest) (sym same) ∙ f) in
-      let end : p ≡ length old + 0 = omega (arith, same, r.long) in
-      (exits, (subst (λ z. AreExits nest z exits) (sym same) e, get_back old (row_of nest exits spot ∷ []) p 0 end ∙ ap (λ (z : Spot). Some (row_of nest exits z)) spots)))
+      let end : p ≡ length old + 0 = omega (arith, same, r.long) in (
+        exits,
+        (
+          subst (λ z. AreExits nest z exits) (sym same) e,
+          get_back old (row_of nest exits spot ∷ []) p 0 end
+              ∙ ap (λ (z : Spot). Some (row_of nest exits z)) spots,
+        ),
+      ))
       (cases_lt p at);
 })

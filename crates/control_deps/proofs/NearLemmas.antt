@@ -1,5 +1,6 @@
 -- All deciders of a node are found from its nearest ones.
-use Rattle.std.proofs.Common.{◌≡◌, ◌≢◌, ℕ, zero, suc, ◌+◌, ◌≤◌, ◌<◌, ⊎_elim, Bool, true, false, true≢false, if◌then◌else◌, List, [], ◌∷◌, Option, Some, None, IfSome, length, refl, sym, ap, ◌∙◌, subst, arith}
+use Rattle.std.proofs.Common.{◌≡◌, ◌≢◌, ℕ, zero, suc, ◌+◌, ◌≤◌, ◌<◌, ⊎_elim, Bool, true, false, true≢false, if◌then◌else◌, List, [], ◌∷◌, Option, Some}
+use Rattle.std.proofs.Common.{None, IfSome, length, refl, sym, ap, ◌∙◌, subst, arith}
 use Rattle.std.specs.List.{AllZip, slice_get}
 use Rattle.std.proofs.lemmas.Bool.{cases_eq, cases_lt}
 use Rattle.std.proofs.lemmas.Option.{none-some, same_Some, slice_get_within}
@@ -21,7 +22,8 @@ use Rattle.control_deps.specs.declared.spot.Form.TheVariants as form
 use Rattle.control_deps.specs.declared.spot.Spot.{Spot}
 use Rattle.control_deps.specs.Chain.{is_loop, live_at, IsChain}
 use Rattle.control_deps.specs.Leaving.{number, Passes, here, outward, Leaves, IsLast, exit_of, AreExits, loops_at, loop_around, row_of, AreRows}
-use Rattle.control_deps.specs.Nearest.{earlier, latest, own_join, Finds, itself, onward, AreNearestAt, AreNearest, Table, latest_in, nearest_of_row, nearest_in}
+use Rattle.control_deps.specs.Nearest.{earlier, latest, own_join, Finds, itself, onward, AreNearestAt, AreNearest, Table, latest_in, nearest_of_row}
+use Rattle.control_deps.specs.Nearest.{nearest_in}
 use Rattle.control_deps.specs.Nest.{IsNestOf}
 use Rattle.control_deps.proofs.FitLemmas.{IsFit, fits_at, site_spot, form_of_head, within_inside}
 use Rattle.control_deps.proofs.ShadowLemmas.{furthest, is_branch, branch_form, stops_rise, live_has, spot_fits, fit_of}
@@ -45,7 +47,8 @@ EndsAt nest (Some b) e = (y : Spot) × ((slice_get nest b.0 ≡ Some y) × (e �
 abbrev IsLabelOf : List Spot → List Label → ℕ → Option Pos → Type 0
 IsLabelOf nest ctx j None = (join_of ctx j ≡ node.Exit) × ((loop_of ctx j ≡ false) × (stop_of ctx j ≡ length nest))
 IsLabelOf nest ctx j (Some b) =
-    (y : Spot) × ((slice_get nest b.0 ≡ Some y) × ((join_of ctx j ≡ Join b.0) × ((loop_of ctx j ≡ is_loop y.form) × ((start_of ctx j ≡ b.0 + 1) × (stop_of ctx j ≡ y.stop)))))
+    (y : Spot) × ((slice_get nest b.0 ≡ Some y) × ((join_of ctx j ≡ Join b.0) ×
+    ((loop_of ctx j ≡ is_loop y.form) × ((start_of ctx j ≡ b.0 + 1) × (stop_of ctx j ≡ y.stop)))))
 
 pub label_join : (nest : List Spot) (ctx : List Label) (j : ℕ) (one : Option Pos) → IsLabelOf nest ctx j one → join_of ctx j ≡ node_of one
 label_join nest ctx j None h = h.0
@@ -115,7 +118,8 @@ pub row_live : (nest : List Spot) (exits : List (Option Pos)) (x : Spot) → x.l
     → ((row_of nest exits x).earlier ≡ exit_of exits x.around) × ((row_of nest exits x).inside ≡ loop_around nest x.around)
 row_live nest exits x live = rw live (refl, refl)
 
-row_dead : (nest : List Spot) (exits : List (Option Pos)) (x : Spot) → x.live ≡ false → ((row_of nest exits x).earlier ≡ None) × ((row_of nest exits x).inside ≡ None)
+row_dead : (nest : List Spot) (exits : List (Option Pos)) (x : Spot) → x.live ≡ false
+    → ((row_of nest exits x).earlier ≡ None) × ((row_of nest exits x).inside ≡ None)
 row_dead nest exits x dead = rw dead (refl, refl)
 
 -- ---- where branches lead
@@ -128,14 +132,16 @@ module _ (body : Body) (nest : List Spot) (is : IsNestOf body nest) where
       go None e = tt
       go (Some b) e = let a = around_spot body nest is q x b at e in slice_get_within nest b.0 a.spot a.at
 
-  passes_before : (q : ℕ) (x : Spot) (first one : Option Pos) (m : ℕ) (b : Pos) → slice_get nest q ≡ Some x → Passes nest first m one → first ≡ x.around → one ≡ Some b → b.0 < q
+  passes_before : (q : ℕ) (x : Spot) (first one : Option Pos) (m : ℕ) (b : Pos) → slice_get nest q ≡ Some x → Passes nest first m one → first ≡ x.around
+      → one ≡ Some b → b.0 < q
   passes_before q x first one m b at here e some = (around_spot body nest is q x b at (sym e ∙ some)).before
   passes_before q x first one m b at (outward {label} c y at_c p) e some =
       let inner = passes_before c.0 y y.around one label b at_c p refl some in
       let outside = (around_spot body nest is q x c at (sym e)).before in omega (arith, inner, outside)
 
   -- on the way outwards nothing that is around is left out
-  narrow : (q : ℕ) (x : Spot) (first one : Option Pos) (m : ℕ) (b : Pos) (y : Spot) → slice_get nest q ≡ Some x → first ≡ x.around → slice_get nest b.0 ≡ Some y
+  narrow : (q : ℕ) (x : Spot) (first one : Option Pos) (m : ℕ) (b : Pos) (y : Spot) → slice_get nest q ≡ Some x → first ≡ x.around
+      → slice_get nest b.0 ≡ Some y
       → b.0 < q → q < y.stop → number one ≤ b.0 + 1 → Passes nest first m one → Passes nest first m (Some b)
   narrow q x first one m b y at e at_b lo hi le here =
       let a = inner_around body nest is b.0 y q x at_b lo hi at in
@@ -188,7 +194,8 @@ module _ (body : Body) (nest : List Spot) (is : IsNestOf body nest) where
           inside = omega (arith, first, first_rise.1);
         }
       where
-        innermost : (p : ℕ) (x : Spot) (ctx : List Label) (first : Option Pos) → slice_get nest p ≡ Some x → x.around ≡ first → IsLabelOf nest ctx 0 first → p < stop_of ctx 0
+        innermost : (p : ℕ) (x : Spot) (ctx : List Label) (first : Option Pos) → slice_get nest p ≡ Some x → x.around ≡ first → IsLabelOf nest ctx 0 first
+            → p < stop_of ctx 0
         innermost p x ctx None at e h = let lt = slice_get_within nest p x at in omega (arith, lt, h.1.1)
         innermost p x ctx (Some b) at e h =
             let a = around_spot body nest is p x b at e in
@@ -199,7 +206,8 @@ module _ (body : Body) (nest : List Spot) (is : IsNestOf body nest) where
     ends one p l = let h = left one p l in (stop_of h.site.around h.number, (label_end nest h.site.around h.number one h.of, h.inside))
 
     -- what begins before a branch and ends behind a position behind it is around what is directly around that position, or is that
-    outer : (one : Option Pos) (p q e : ℕ) (x : Spot) → Leaves nest one p → EndsAt nest one e → p < q → q < e → slice_get nest q ≡ Some x → number one ≤ number x.around
+    outer : (one : Option Pos) (p q e : ℕ) (x : Spot) → Leaves nest one p → EndsAt nest one e → p < q → q < e → slice_get nest q ≡ Some x
+        → number one ≤ number x.around
     outer None p q e x l end lo hi at = omega arith
     outer (Some b) p q e x l (y, (at_b, stop)) lo hi at =
         let before = passes_before p l.spot l.spot.around (Some b) l.label b l.at l.passes refl refl in
@@ -208,14 +216,16 @@ module _ (body : Body) (nest : List Spot) (is : IsNestOf body nest) where
         omega (arith, numbers, a.1.1)
 
     -- so it leaves that too
-    leaves_none : (one : Option Pos) (p q e : ℕ) (x : Spot) → Leaves nest one p → EndsAt nest one e → p < q → q < e → slice_get nest q ≡ Some x → x.around ≡ None → Leaves nest x.around p
+    leaves_none : (one : Option Pos) (p q e : ℕ) (x : Spot) → Leaves nest one p → EndsAt nest one e → p < q → q < e → slice_get nest q ≡ Some x
+        → x.around ≡ None → Leaves nest x.around p
     leaves_none one p q e x l end lo hi at none =
         let le = outer one p q e x l end lo hi at in
         let zero_is : number x.around ≡ 0 = ap number none in
         let same : one ≡ x.around = number_once one x.around (omega (arith, le, zero_is)) in
         subst (λ z. Leaves nest z p) same l
 
-    leaves_some : (one : Option Pos) (p q e : ℕ) (x : Spot) (b : Pos) → Leaves nest one p → EndsAt nest one e → p < q → q < e → slice_get nest q ≡ Some x → x.around ≡ Some b
+    leaves_some : (one : Option Pos) (p q e : ℕ) (x : Spot) (b : Pos) → Leaves nest one p → EndsAt nest one e → p < q → q < e → slice_get nest q ≡ Some x
+        → x.around ≡ Some b
         → b.0 < p → Leaves nest x.around p
     leaves_some one p q e x b l end lo hi at some before =
         let le = outer one p q e x l end lo hi at in
@@ -228,13 +238,15 @@ module _ (body : Body) (nest : List Spot) (is : IsNestOf body nest) where
     -- ---- each has the node in its shadow
 
     join_shadow : (one : Option Pos) (p : ℕ) → Leaves nest one p → InShadow S p (node_of one)
-    join_shadow one p l = let h = left one p l in subst (InShadow S p) (label_join nest h.site.around h.number one h.of) (around h.label h.number h.site h.at h.branches h.low)
+    join_shadow one p l = let h = left one p l in subst (InShadow S p) (label_join nest h.site.around h.number one h.of)
+        (around h.label h.number h.site h.at h.branches h.low)
 
     earlier_shadow : (q p : ℕ) (x : Spot) → slice_get nest q ≡ Some x → x.live ≡ true → Leaves nest x.around p → p < q → InShadow S p (At q)
     earlier_shadow q p x at live l lo =
         let h = left x.around p l in
         let hi : q < stop_of h.site.around h.label = below x.around refl h in
-        later h.label h.site h.at h.branches (within_inside nest S fit (p + 1) (stop_of h.site.around h.label) (At q) (ap live_at at ∙ live, (omega (arith, lo), hi)))
+        later h.label h.site h.at h.branches (within_inside nest S fit (p + 1) (stop_of h.site.around h.label) (At q)
+        (ap live_at at ∙ live, (omega (arith, lo), hi)))
       where
         below : (one : Option Pos) → x.around ≡ one → (h : Left one p) → q < stop_of h.site.around h.label
         below None e h = let lt = slice_get_within nest q x at in omega (arith, lt, h.of.1.1, h.further)
@@ -243,7 +255,8 @@ module _ (body : Body) (nest : List Spot) (is : IsNestOf body nest) where
             let same : a.spot ≡ h.of.0 = same_Some a.spot h.of.0 (sym a.at ∙ h.of.1.0) in
             omega (arith, a.past, ap (λ (z : Spot). z.stop) same, h.of.1.1.1.1.1, h.further)
 
-    loop_shadow : (q p : ℕ) (x : Spot) (b : Pos) (y : Spot) → slice_get nest q ≡ Some x → x.live ≡ true → x.around ≡ Some b → slice_get nest b.0 ≡ Some y → is_loop y.form ≡ true
+    loop_shadow : (q p : ℕ) (x : Spot) (b : Pos) (y : Spot) → slice_get nest q ≡ Some x → x.live ≡ true → x.around ≡ Some b → slice_get nest b.0 ≡ Some y
+        → is_loop y.form ≡ true
         → Leaves nest (Some b) p → InShadow S p (At q)
     loop_shadow q p x b y at live some at_b loop l =
         let h = left (Some b) p l in
@@ -269,32 +282,40 @@ module _ (body : Body) (nest : List Spot) (is : IsNestOf body nest) where
       code = code_of body.code
 
       -- the row of a position
-      row_at : (q : ℕ) (x : Spot) → slice_get nest q ≡ Some x → (before : List (Option Pos)) × (AreExits nest q before × (slice_get rows q ≡ Some (row_of nest before x)))
+      row_at : (q : ℕ) (x : Spot) → slice_get nest q ≡ Some x
+          → (before : List (Option Pos)) × (AreExits nest q before × (slice_get rows q ≡ Some (row_of nest before x)))
       row_at q x at = has_rows.is q x (slice_get_within nest q x at) at
 
       -- the last branch before a live position that leaves what is directly around it
-      earlier_is : (q p : ℕ) (x : Spot) → slice_get nest q ≡ Some x → x.live ≡ true → Leaves nest x.around p → p < q → Later (Leaves nest x.around) q (near (At q)).earlier p
+      earlier_is : (q p : ℕ) (x : Spot) → slice_get nest q ≡ Some x → x.live ≡ true → Leaves nest x.around p → p < q
+          → Later (Leaves nest x.around) q (near (At q)).earlier p
       earlier_is q p x at live l lt =
           let r = row_at q x at in
-          let told : (near (At q)).earlier ≡ exit_of r.0 x.around = ap (λ (z : Option Row). (nearest_of_row exits z).earlier) r.1.1 ∙ (row_live nest r.0 x live).0 in
-          last_some (Leaves nest x.around) q (near (At q)).earlier p (subst (IsLast (Leaves nest x.around) q) (sym told) (r.1.0.is x.around (around_within q x at))) lt l
+          let told : (near (At q)).earlier ≡ exit_of r.0 x.around = ap (λ (z : Option Row). (nearest_of_row exits z).earlier) r.1.1
+          ∙ (row_live nest r.0 x live).0 in
+          last_some (Leaves nest x.around) q (near (At q)).earlier p (subst (IsLast (Leaves nest x.around) q) (sym told)
+          (r.1.0.is x.around (around_within q x at))) lt l
 
-      loop_is : (b : Pos) (y : Spot) (first : Option Pos) → first ≡ Some b → slice_get nest b.0 ≡ Some y → is_loop y.form ≡ true → loop_around nest first ≡ Some b
+      loop_is : (b : Pos) (y : Spot) (first : Option Pos) → first ≡ Some b → slice_get nest b.0 ≡ Some y → is_loop y.form ≡ true
+          → loop_around nest first ≡ Some b
       loop_is b y first some at_b loop =
           let looped : loops_at (slice_get nest b.0) ≡ true = ap loops_at at_b ∙ loop in
           ap (loop_around nest) some ∙ ap (λ (z : Bool). if z then Some b else None) looped
 
       -- of a live position directly in a loop, the last branch that leaves the loop
-      latest_is : (q : ℕ) (x : Spot) (b : Pos) (y : Spot) → slice_get nest q ≡ Some x → x.live ≡ true → x.around ≡ Some b → slice_get nest b.0 ≡ Some y → is_loop y.form ≡ true
+      latest_is : (q : ℕ) (x : Spot) (b : Pos) (y : Spot) → slice_get nest q ≡ Some x → x.live ≡ true → x.around ≡ Some b → slice_get nest b.0 ≡ Some y
+          → is_loop y.form ≡ true
           → (near (At q)).latest ≡ exit_of exits (Some b)
       latest_is q x b y at live some at_b loop =
           let r = row_at q x at in
-          ap (λ (z : Option Row). (nearest_of_row exits z).latest) r.1.1 ∙ ap (latest_in exits) ((row_live nest r.0 x live).1 ∙ loop_is b y x.around some at_b loop)
+          ap (λ (z : Option Row). (nearest_of_row exits z).latest) r.1.1
+          ∙ ap (latest_in exits) ((row_live nest r.0 x live).1 ∙ loop_is b y x.around some at_b loop)
 
       -- each branch before a position below f that leaves what goes on behind it is found
       abbrev Backs : ℕ → Type 0
       Backs f =
-          (p q e : ℕ) (one : Option Pos) (x : Spot) → q < f → Leaves nest one p → EndsAt nest one e → p < q → q < e → slice_get nest q ≡ Some x → x.live ≡ true → Finds code near (At q) (At p)
+          (p q e : ℕ) (one : Option Pos) (x : Spot) → q < f → Leaves nest one p → EndsAt nest one e → p < q → q < e → slice_get nest q ≡ Some x → x.live ≡
+          true → Finds code near (At q) (At p)
 
       back_more : (f : ℕ) → Backs f → Backs (suc f)
       back_more f before p q e one x lt l end lo hi at live = go x.around refl
@@ -306,7 +327,8 @@ module _ (body : Body) (nest : List Spot) (is : IsNestOf body nest) where
               ⊎_elim
               (λ (eq : p ≡ h.last.0). subst (λ z. Finds code near (At q) (At z)) (sym eq) step)
               (λ (ne : p ≢ h.last.0). finds_on code near (At q) (At h.last.0) (At p) step
-              (before p h.last.0 e one h.has.spot (omega (arith, lt, h.below)) l end (omega (arith, h.most, ne)) (omega (arith, h.below, hi)) h.has.at h.has.live))
+              (before p h.last.0 e one h.has.spot (omega (arith, lt, h.below)) l end (omega (arith, h.most, ne)) (omega (arith, h.below, hi)) h.has.at
+              h.has.live))
               (cases_eq p h.last.0)
 
           go : (o : Option Pos) → x.around ≡ o → Finds code near (At q) (At p)
@@ -320,7 +342,8 @@ module _ (body : Body) (nest : List Spot) (is : IsNestOf body nest) where
               let same : l.spot ≡ a.spot = same_Some l.spot a.spot (sym l.at ∙ ap (slice_get nest) eq ∙ a.at) in
               absurd (a.holds (ap (λ (z : Spot). is_branch z.form) (sym same) ∙ ap is_branch l.branches)))
               (λ (ne : p ≢ b.0). finds_on code near (At q) (At b.0) (At p) (go_around body nest is near q x b at some)
-              (before p b.0 e one a.spot (omega (arith, lt, a.before)) l end (omega (arith, le, ne)) (omega (arith, a.before, hi)) a.at (live_around body nest is q x b a.spot at live some a.at)))
+              (before p b.0 e one a.spot (omega (arith, lt, a.before)) l end (omega (arith, le, ne)) (omega (arith, a.before, hi)) a.at
+              (live_around body nest is q x b a.spot at live some a.at)))
               (cases_eq p b.0))
               (cases_lt b.0 p)
 
@@ -342,7 +365,8 @@ module _ (body : Body) (nest : List Spot) (is : IsNestOf body nest) where
           (cases_eq p h.last.0)
 
       -- each branch that leaves a loop is found from what is in the loop
-      in_loop : (f p q : ℕ) (b : Pos) (y x : Spot) → q < f → slice_get nest b.0 ≡ Some y → is_loop y.form ≡ true → Leaves nest (Some b) p → b.0 < q → q < y.stop
+      in_loop : (f p q : ℕ) (b : Pos) (y x : Spot) → q < f → slice_get nest b.0 ≡ Some y → is_loop y.form ≡ true → Leaves nest (Some b) p → b.0 < q
+          → q < y.stop
           → slice_get nest q ≡ Some x → x.live ≡ true → Finds code near (At q) (At p)
       in_loop zero p q b y x lt at_b loop l lo hi at live = absurd (omega arith)
       in_loop (suc f) p q b y x lt at_b loop l lo hi at live =
@@ -353,7 +377,8 @@ module _ (body : Body) (nest : List Spot) (is : IsNestOf body nest) where
           let same : a.0 ≡ b = same_Some a.0 b (number_once (Some a.0) (Some b) (omega (arith, eq))) in
           from_last (At q) (Some b) p l (slice_get_within nest b.0 y at_b) (latest_is q x b y at live (a.1.0 ∙ ap (λ (z : Pos). Some z) same) at_b loop))
           (λ (ne : b.0 ≢ a.0.0). finds_on code near (At q) (At a.0.0) (At p) (go_around body nest is near q x a.0 at a.1.0)
-          (in_loop f p a.0.0 b y c.spot (omega (arith, lt, c.before)) at_b loop l (omega (arith, a.1.1, ne)) (omega (arith, c.before, hi)) c.at (live_around body nest is q x a.0 c.spot at live a.1.0 c.at)))
+          (in_loop f p a.0.0 b y c.spot (omega (arith, lt, c.before)) at_b loop l (omega (arith, a.1.1, ne)) (omega (arith, c.before, hi)) c.at
+          (live_around body nest is q x a.0 c.spot at live a.1.0 c.at)))
           (cases_eq b.0 a.0.0)
 
       -- ---- whatever has a node in its shadow is found
@@ -389,7 +414,12 @@ module _ (body : Body) (nest : List Spot) (is : IsNestOf body nest) where
           let far = furthest s.head m.0 m.1 in
           let more = far.1 l br in
           let h = label_passes nest s.around x.0.around j m.0 x.1.1.chain (omega (arith, le, more)) (x.1.1.exist m.0 far.0) in
-          record { one = h.0; leaves = record { spot = x.0; label = m.0; at = x.1.0; live = x.1.1.live; branches = x.1.1.form ∙ m.1; passes = h.1.0 }; of = h.1.1 }
+          record {
+            one = h.0;
+            leaves = record { spot = x.0; label = m.0; at = x.1.0; live = x.1.1.live; branches = x.1.1.form ∙ m.1; passes = h.1.0 };
+            of =
+                h.1.1;
+          }
 
       latest_of : (one : Option Pos) → (near (node_of one)).latest ≡ exit_of exits one
       latest_of None = refl
@@ -399,13 +429,15 @@ module _ (body : Body) (nest : List Spot) (is : IsNestOf body nest) where
       all p n (arms kind s there h i) =
           let x = site_spot nest (slice_get nest p) (slice_get S p) s (fits_at nest nest S p fit) there in
           let t = stands (p + 1) s.stop n i in
-          finds_on code near n (At t.pos) (At p) t.finds (climb body nest is near (suc t.pos) p t.pos x.0 t.spot (omega arith) x.1.0 (omega (arith, t.low)) (omega (arith, t.high, x.1.1.stop)) t.at)
+          finds_on code near n (At t.pos) (At p) t.finds (climb body nest is near (suc t.pos) p t.pos x.0 t.spot (omega arith) x.1.0 (omega (arith, t.low))
+          (omega (arith, t.high, x.1.1.stop)) t.at)
       all p n (if_join kind s there h) = onward (Join p) itself own_join
       all p n (later l s there br i) =
           let k = left_by p l l s there br (omega arith) in
           let t = stands (p + 1) (stop_of s.around l) n i in
           finds_on code near n (At t.pos) (At p) t.finds
-          (back (suc t.pos) p t.pos (stop_of s.around l) k.one t.spot (omega arith) k.leaves (label_end nest s.around l k.one k.of) (omega (arith, t.low)) t.high t.at t.live)
+          (back (suc t.pos) p t.pos (stop_of s.around l) k.one t.spot (omega arith) k.leaves (label_end nest s.around l k.one k.of) (omega (arith, t.low))
+          t.high t.at t.live)
       all p n (around l j s there br le) =
           let k = left_by p l j s there br le in
           subst (λ z. Finds code near z (At p)) (sym (label_join nest s.around j k.one k.of))
@@ -415,11 +447,13 @@ module _ (body : Body) (nest : List Spot) (is : IsNestOf body nest) where
           let t = stands (start_of s.around j) (stop_of s.around j) n i in
           finds_on code near n (At t.pos) (At p) t.finds (go k.one k.leaves k.of t.pos t.spot t.at t.live t.low t.high)
         where
-          go : (one : Option Pos) → Leaves nest one p → IsLabelOf nest s.around j one → (q : ℕ) (x : Spot) → slice_get nest q ≡ Some x → x.live ≡ true → start_of s.around j ≤ q → q < stop_of s.around j
+          go : (one : Option Pos) → Leaves nest one p → IsLabelOf nest s.around j one → (q : ℕ) (x : Spot) → slice_get nest q ≡ Some x → x.live ≡ true
+              → start_of s.around j ≤ q → q < stop_of s.around j
               → Finds code near (At q) (At p)
           go None leaves of q x at live lo hi = absurd (true≢false (sym lp ∙ of.1.0))
           go (Some b) leaves of q x at live lo hi =
-              in_loop (suc q) p q b of.0 x (omega arith) of.1.0 (sym of.1.1.1.0 ∙ lp) leaves (omega (arith, lo, of.1.1.1.1.0)) (omega (arith, hi, of.1.1.1.1.1)) at live
+              in_loop (suc q) p q b of.0 x (omega arith) of.1.0 (sym of.1.1.1.0 ∙ lp) leaves (omega (arith, lo, of.1.1.1.1.0))
+              (omega (arith, hi, of.1.1.1.1.1)) at live
 
       -- ---- each nearest decider has the node in its shadow
 
@@ -443,11 +477,13 @@ module _ (body : Body) (nest : List Spot) (is : IsNestOf body nest) where
           let same : row ≡ row_of nest r.0 x.0 = same_Some row (row_of nest r.0 x.0) (sym e ∙ r.1.1) in
           go x.0 x.1 r.0 r.1.0 (ap (λ (z : Row). z.earlier) (sym same) ∙ told) x.0.live refl
         where
-          go : (x : Spot) → slice_get nest q.0 ≡ Some x → (before : List (Option Pos)) → AreExits nest q.0 before → (row_of nest before x).earlier ≡ Some p → (b : Bool) → x.live ≡ b
+          go : (x : Spot) → slice_get nest q.0 ≡ Some x → (before : List (Option Pos)) → AreExits nest q.0 before → (row_of nest before x).earlier ≡ Some p
+              → (b : Bool) → x.live ≡ b
               → InShadow S p.0 (node.At q)
           go x at before h told false off = absurd (none-some p (sym (row_dead nest before x off).0 ∙ told))
           go x at before h told true live =
-              let last = last_is (Leaves nest x.around) q.0 (exit_of before x.around) p (sym (row_live nest before x live).0 ∙ told) (h.is x.around (around_within q.0 x at)) in
+              let last = last_is (Leaves nest x.around) q.0 (exit_of before x.around) p (sym (row_live nest before x live).0 ∙ told)
+              (h.is x.around (around_within q.0 x at)) in
               earlier_shadow q.0 p.0 x at live last.1 last.0
 
       position_latest : (q p : Pos) (r : Option Row) → slice_get rows q.0 ≡ r → (nearest_of_row exits r).latest ≡ Some p → InShadow S p.0 (node.At q)
@@ -459,20 +495,25 @@ module _ (body : Body) (nest : List Spot) (is : IsNestOf body nest) where
           let same : row ≡ row_of nest r.0 x.0 = same_Some row (row_of nest r.0 x.0) (sym e ∙ r.1.1) in
           go x.0 x.1 r.0 (ap (λ (z : Row). latest_in exits z.inside) (sym same) ∙ told) x.0.live refl
         where
-          looped : (x : Spot) → slice_get nest q.0 ≡ Some x → x.live ≡ true → (b : Pos) (y : Spot) → x.around ≡ Some b → slice_get nest b.0 ≡ Some y → (l : Bool) → is_loop y.form ≡ l
+          looped : (x : Spot) → slice_get nest q.0 ≡ Some x → x.live ≡ true → (b : Pos) (y : Spot) → x.around ≡ Some b → slice_get nest b.0 ≡ Some y
+              → (l : Bool) → is_loop y.form ≡ l
               → latest_in exits (if l then Some b else None) ≡ Some p → InShadow S p.0 (node.At q)
           looped x at live b y some at_b false off told = absurd (none-some p told)
           looped x at live b y some at_b true loop told =
-              let last = last_is (Leaves nest (Some b)) (length nest) (exit_of exits (Some b)) p told (has_exits.is (Some b) (slice_get_within nest b.0 y at_b)) in
+              let last = last_is (Leaves nest (Some b)) (length nest) (exit_of exits (Some b)) p told
+              (has_exits.is (Some b) (slice_get_within nest b.0 y at_b)) in
               loop_shadow q.0 p.0 x b y at live some at_b loop last.1
 
-          inside : (x : Spot) → slice_get nest q.0 ≡ Some x → x.live ≡ true → (first : Option Pos) → x.around ≡ first → latest_in exits (loop_around nest first) ≡ Some p → InShadow S p.0 (node.At q)
+          inside : (x : Spot) → slice_get nest q.0 ≡ Some x → x.live ≡ true → (first : Option Pos) → x.around ≡ first
+              → latest_in exits (loop_around nest first) ≡ Some p → InShadow S p.0 (node.At q)
           inside x at live None e told = absurd (none-some p told)
           inside x at live (Some b) e told =
               let a = around_spot body nest is q.0 x b at e in
-              looped x at live b a.spot e a.at (is_loop a.spot.form) refl (ap (λ (z : Bool). latest_in exits (if z then Some b else None)) (ap loops_at (sym a.at)) ∙ told)
+              looped x at live b a.spot e a.at (is_loop a.spot.form) refl
+              (ap (λ (z : Bool). latest_in exits (if z then Some b else None)) (ap loops_at (sym a.at)) ∙ told)
 
-          go : (x : Spot) → slice_get nest q.0 ≡ Some x → (before : List (Option Pos)) → latest_in exits (row_of nest before x).inside ≡ Some p → (b : Bool) → x.live ≡ b
+          go : (x : Spot) → slice_get nest q.0 ≡ Some x → (before : List (Option Pos)) → latest_in exits (row_of nest before x).inside ≡ Some p
+              → (b : Bool) → x.live ≡ b
               → InShadow S p.0 (node.At q)
           go x at before told false off = absurd (none-some p (ap (latest_in exits) (sym (row_dead nest before x off).1) ∙ told))
           go x at before told true live = inside x at live x.around refl (ap (latest_in exits) (sym (row_live nest before x live).1) ∙ told)
@@ -495,5 +536,6 @@ module _ (body : Body) (nest : List Spot) (is : IsNestOf body nest) where
 pub nearest_of : (nest : List Spot) (k : ℕ) (rows : List Row) (exits : List (Option Pos)) → k ≡ length nest → AreRows nest k rows → AreExits nest k exits
     → AreNearest nest (record { rows = rows; exits = exits })
 nearest_of nest k rows exits whole has_rows has_exits body is cs t w =
-    are_nearest body nest is (body_sites cs t (marked w 0 (code_of body.code))) (fit_of nest body cs t w is) rows exits (subst (λ z. AreRows nest z rows) whole has_rows)
+    are_nearest body nest is (body_sites cs t (marked w 0 (code_of body.code))) (fit_of nest body cs t w is) rows exits
+    (subst (λ z. AreRows nest z rows) whole has_rows)
     (subst (λ z. AreExits nest z exits) whole has_exits)

@@ -1,5 +1,6 @@
 -- Which branches leave a block, loop or if, or the body, or go to its label; and the last of them.
-use Rattle.std.specs.Prelude.{◌≡◌, ℕ, suc, ◌+◌, ◌≤◌, ◌<◌, ◌⊎◌, Bool, true, false, List, length, Option, Some, None, IfSome, slice_get, slice_index_or, if◌then◌else◌}
+use Rattle.std.specs.Prelude.{◌≡◌, ℕ, suc, ◌+◌, ◌≤◌, ◌<◌, ◌⊎◌, Bool, true, false, List, length, Option, Some, None, IfSome, slice_get, slice_index_or}
+use Rattle.std.specs.Prelude.{if◌then◌else◌}
 use Rattle.wasm_types.specs.declared.module.Pos.{Pos}
 use Rattle.control_deps.specs.declared.spot.Form.TheVariants as form
 use Rattle.control_deps.specs.declared.spot.Spot.{Spot}
@@ -14,7 +15,8 @@ number (Some b) = b.0 + 1
 -- of these blocks, loops and ifs, and the body, from the first one outwards, one up to the label is this one
 pub data Passes (nest : List Spot) : Option Pos → ℕ → Option Pos → Type 0 where
   here : {first : Option Pos} {label : ℕ} → Passes nest first label first
-  outward : {one : Option Pos} {label : ℕ} (b : Pos) (spot : Spot) → slice_get nest b.0 ≡ Some spot → Passes nest spot.around label one → Passes nest (Some b) (suc label) one
+  outward : {one : Option Pos} {label : ℕ} (b : Pos) (spot : Spot) → slice_get nest b.0 ≡ Some spot → Passes nest spot.around label one
+      → Passes nest (Some b) (suc label) one
 
 -- a live branch leaves the block, loop or if, or the body, or goes to its label
 pub record Leaves (nest : List Spot) (one : Option Pos) (p : ℕ) : Type 0 where
@@ -67,4 +69,5 @@ row_of nest exits spot =
 -- the positions below k have their rows
 pub record AreRows (nest : List Spot) (k : ℕ) (rows : List Row) : Type 0 where
   pub long : length rows ≡ k
-  pub is : (p : ℕ) (spot : Spot) → p < k → slice_get nest p ≡ Some spot → (exits : List (Option Pos)) × (AreExits nest p exits × (slice_get rows p ≡ Some (row_of nest exits spot)))
+  pub is : (p : ℕ) (spot : Spot) → p < k → slice_get nest p ≡ Some spot
+      → (exits : List (Option Pos)) × (AreExits nest p exits × (slice_get rows p ≡ Some (row_of nest exits spot)))

@@ -57,4 +57,5 @@ nearest_in table node.Exit = record { earlier = None; latest = exit_of table.exi
 -- whatever is watched.
 abbrev pub AreNearest : List Spot → Table → Type 0
 AreNearest nest table =
-    (body : Body) → IsNestOf body nest → (cs : Callees) (t : ℕ) (w : ℕ → Bool) → AreNearestAt (body_sites cs t (marked w 0 (code_of body.code))) (code_of body.code) (nearest_in table)
+    (body : Body) → IsNestOf body nest → (cs : Callees) (t : ℕ) (w : ℕ → Bool) → AreNearestAt (body_sites cs t (marked w 0 (code_of body.code)))
+    (code_of body.code) (nearest_in table)

@@ -178,8 +178,8 @@ impl Deciders {
         Ok(Deciders { rows, exits })
     }
 
-    /// The nearest deciders of a node: none of what is no node. All ifs and branches that have a node in their shadow are found from it, by the nearest deciders
-    /// of what is found, by what is directly around a position, and by the position of a join (`Finds`).
+    /// The nearest deciders of a node: none of what is no node. All ifs and branches that have a node in their shadow are found from it, by nearest deciders
+    /// again, by what is directly around a position, and by the position of a join (`Finds`).
     pub fn nearest(&self, node: Node) -> Nearest
         ensures { result ≡ nearest_in self.now node }
     {

@@ -8,18 +8,29 @@ use Rattle.control_deps.proofs.deciders.+mark.Goals as goal
 pub returns-then-label-eq0 : goal.returns-then-label-eq0
 returns-then-label-eq0 t c =
     let lt : number c.args.first < length c.args.exits.now = omega (arith, number_within c.args.spots.now c.args.first c.requires.within, c.requires.long) in
-    zero_marks c.args.spots.now c.args.first c.args.label c.args.branch c.args.exits.now _ lt c.if-label-eq0.true (ap (λ k. set c.args.exits.now k (Some c.args.branch)) c.number-here.ensures)
+    zero_marks c.args.spots.now c.args.first c.args.label c.args.branch c.args.exits.now _ lt c.if-label-eq0.true
+    (ap (λ k. set c.args.exits.now k (Some c.args.branch)) c.number-here.ensures)
 
 pub returns-in_default : goal.returns-in_default
 returns-in_default t c =
     let lt : number c.args.first < length c.args.exits.now = omega (arith, number_within c.args.spots.now c.args.first c.requires.within, c.requires.long) in
-    none_marks c.args.spots.now c.args.first c.args.label c.args.branch c.args.exits.now _ lt c.in_default.is (ap (λ k. set c.args.exits.now k (Some c.args.branch)) c.number-here.ensures)
+    none_marks c.args.spots.now c.args.first c.args.label c.args.branch c.args.exits.now _ lt c.in_default.is
+    (ap (λ k. set c.args.exits.now k (Some c.args.branch)) c.number-here.ensures)
 
 pub mark-requires : goal.mark-requires
 mark-requires t c =
     let nest = c.args.spots.now in
-    let at = slice_get-get_or nest c.in-Some.block.0 _ (block_within nest c.args.first c.in-Some.block c.in-Some.is c.requires.within) in
-    (omega arith, (c.requires.nested, (around_within nest c.in-Some.block.0 _ c.requires.nested at, length_marked c.args.exits.now c.number-here.result (Some c.args.branch) (length nest + 1) c.requires.long)))
+    let at = slice_get-get_or nest c.in-Some.block.0 _ (block_within nest c.args.first c.in-Some.block c.in-Some.is c.requires.within) in (
+      omega arith,
+      (
+        c.requires.nested,
+        (
+          around_within nest c.in-Some.block.0 _ c.requires.nested at,
+          length_marked c.args.exits.now c.number-here.result
+              (Some c.args.branch) (length nest + 1) c.requires.long,
+        ),
+      ),
+    )
 
 pub returns : goal.returns
 returns t c =

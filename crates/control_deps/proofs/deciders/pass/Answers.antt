@@ -19,5 +19,6 @@ pub returns-clause-rows : goal.returns-clause-rows
 returns-clause-rows c =
     let nest = c.args.spots.now in
     let pushed : c.push.new.self.items ≡ c.args.rows.now.items ++ c.row_of-row.result ∷ [] = search rules in
-    more_rows nest c.args.at.0 _ c.args.exits.now c.args.rows.now.items c.push.new.self.items (slice_get-get_or nest c.args.at.0 _ c.requires.here) c.requires.exits
+    more_rows nest c.args.at.0 _ c.args.exits.now c.args.rows.now.items c.push.new.self.items (slice_get-get_or nest c.args.at.0 _ c.requires.here)
+    c.requires.exits
     (pushed ∙ ap (λ (row : Row). c.args.rows.now.items ++ row ∷ []) c.row_of-row.ensures) c.requires.rows
