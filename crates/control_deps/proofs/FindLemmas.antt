@@ -61,7 +61,7 @@ holder_found body nest is cs t w near b q s there lo hi =
     let x = spot_at nest q (omega (arith, past, stop_within body nest is b y.0 y.1.0)) in
     climb body nest is near (suc q) b q y.0 x.0 (omega arith) y.1.0 lo past x.1
 
-around_once : (c : Code) (q : ℕ) (o : Option Pos) (b : Pos) → IsAround c q o → IsAround c q (Some b) → o ≡ Some b
+pub around_once : (c : Code) (q : ℕ) (o : Option Pos) (b : Pos) → IsAround c q o → IsAround c q (Some b) → o ≡ Some b
 around_once c q None b none a = absurd (none b.0 a.0)
 around_once c q (Some b') b a' a =
     let below = a.1 b'.0 a'.0 in

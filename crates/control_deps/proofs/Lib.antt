@@ -7,3 +7,4 @@ pub mod EncloseLemmas
 pub mod FindLemmas
 pub mod LeaveLemmas
 pub mod NearLemmas
+pub mod InwardLemmas

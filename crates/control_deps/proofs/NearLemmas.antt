@@ -34,17 +34,17 @@ use Rattle.control_deps.proofs.LeaveLemmas.{number_once}
 -- ---- labels
 
 -- the end of the body, and the join of a block, loop or if
-abbrev node_of : Option Pos → Node
+abbrev pub node_of : Option Pos → Node
 node_of None = node.Exit
 node_of (Some b) = Join b.0
 
 -- where the body ends, and the contents of a block, loop or if
-abbrev EndsAt : List Spot → Option Pos → ℕ → Type 0
+abbrev pub EndsAt : List Spot → Option Pos → ℕ → Type 0
 EndsAt nest None e = e ≡ length nest
 EndsAt nest (Some b) e = (y : Spot) × ((slice_get nest b.0 ≡ Some y) × (e ≡ y.stop))
 
 -- a label of this number is that of the body, or of the block, loop or if at a position
-abbrev IsLabelOf : List Spot → List Label → ℕ → Option Pos → Type 0
+abbrev pub IsLabelOf : List Spot → List Label → ℕ → Option Pos → Type 0
 IsLabelOf nest ctx j None = (join_of ctx j ≡ node.Exit) × ((loop_of ctx j ≡ false) × (stop_of ctx j ≡ length nest))
 IsLabelOf nest ctx j (Some b) =
     (y : Spot) × ((slice_get nest b.0 ≡ Some y) × ((join_of ctx j ≡ Join b.0) ×
@@ -54,7 +54,7 @@ pub label_join : (nest : List Spot) (ctx : List Label) (j : ℕ) (one : Option P
 label_join nest ctx j None h = h.0
 label_join nest ctx j (Some b) h = h.1.1.0
 
-label_end : (nest : List Spot) (ctx : List Label) (j : ℕ) (one : Option Pos) → IsLabelOf nest ctx j one → EndsAt nest one (stop_of ctx j)
+pub label_end : (nest : List Spot) (ctx : List Label) (j : ℕ) (one : Option Pos) → IsLabelOf nest ctx j one → EndsAt nest one (stop_of ctx j)
 label_end nest ctx j None h = h.1.1
 label_end nest ctx j (Some b) h = (h.0, (h.1.0, h.1.1.1.1.1))
 
@@ -62,11 +62,11 @@ label_within : (nest : List Spot) (ctx : List Label) (j : ℕ) (one : Option Pos
 label_within nest ctx j None h = tt
 label_within nest ctx j (Some b) h = slice_get_within nest b.0 h.0 h.1.0
 
-label_more : (nest : List Spot) (L : Label) (ctx : List Label) (j : ℕ) (one : Option Pos) → IsLabelOf nest ctx j one → IsLabelOf nest (L ∷ ctx) (suc j) one
+pub label_more : (nest : List Spot) (L : Label) (ctx : List Label) (j : ℕ) (one : Option Pos) → IsLabelOf nest ctx j one → IsLabelOf nest (L ∷ ctx) (suc j) one
 label_more nest L ctx j None h = h
 label_more nest L ctx j (Some b) h = h
 
-first_label : (nest : List Spot) (first : Option Pos) (ctx : List Label) → IsChain nest first ctx → IsLabelOf nest ctx 0 first
+pub first_label : (nest : List Spot) (first : Option Pos) (ctx : List Label) → IsChain nest first ctx → IsLabelOf nest ctx 0 first
 first_label nest first [] chain = absurd chain
 first_label nest None (L ∷ []) chain = (chain.join, (chain.loop, chain.stop))
 first_label nest None (L ∷ M ∷ ctx) chain = absurd chain
@@ -132,7 +132,7 @@ module _ (body : Body) (nest : List Spot) (is : IsNestOf body nest) where
       go None e = tt
       go (Some b) e = let a = around_spot body nest is q x b at e in slice_get_within nest b.0 a.spot a.at
 
-  passes_before : (q : ℕ) (x : Spot) (first one : Option Pos) (m : ℕ) (b : Pos) → slice_get nest q ≡ Some x → Passes nest first m one → first ≡ x.around
+  pub passes_before : (q : ℕ) (x : Spot) (first one : Option Pos) (m : ℕ) (b : Pos) → slice_get nest q ≡ Some x → Passes nest first m one → first ≡ x.around
       → one ≡ Some b → b.0 < q
   passes_before q x first one m b at here e some = (around_spot body nest is q x b at (sym e ∙ some)).before
   passes_before q x first one m b at (outward {label} c y at_c p) e some =
@@ -269,6 +269,26 @@ module _ (body : Body) (nest : List Spot) (is : IsNestOf body nest) where
         looping h.label h.number h.site h.at h.branches h.low looped
         (within_inside nest S fit (start_of h.site.around h.number) (stop_of h.site.around h.number) (At q) (ap live_at at ∙ live, (lo, hi)))
 
+    -- what a branch leaves, by a label
+    pub record LeftBy (p j : ℕ) (s : Site) : Type 0 where
+      pub one : Option Pos
+      pub leaves : Leaves nest one p
+      pub of : IsLabelOf nest s.around j one
+
+    pub left_by : (p l j : ℕ) (s : Site) → IsSite S p s → Branches s.head l → j ≤ l → LeftBy p j s
+    left_by p l j s there br le =
+        let x = site_spot nest (slice_get nest p) (slice_get S p) s (fits_at nest nest S p fit) there in
+        let m = branch_of (form_of_head s.head) (branch_form s.head l br) in
+        let far = furthest s.head m.0 m.1 in
+        let more = far.1 l br in
+        let h = label_passes nest s.around x.0.around j m.0 x.1.1.chain (omega (arith, le, more)) (x.1.1.exist m.0 far.0) in
+        record {
+          one = h.0;
+          leaves = record { spot = x.0; label = m.0; at = x.1.0; live = x.1.1.live; branches = x.1.1.form ∙ m.1; passes = h.1.0 };
+          of =
+              h.1.1;
+        }
+
     -- ---- what a table tells
 
     module _ (rows : List Row) (exits : List (Option Pos)) (has_rows : AreRows nest (length nest) rows) (has_exits : AreExits nest (length nest) exits) where
@@ -400,26 +420,6 @@ module _ (body : Body) (nest : List Spot) (is : IsNestOf body nest) where
       stands a b n (at_join {q} t there j le lt) =
           let x = site_spot nest (slice_get nest q) (slice_get S q) t (fits_at nest nest S q fit) there in
           record { pos = q; spot = x.0; at = x.1.0; live = x.1.1.live; low = le; high = lt; finds = onward (Join q) itself own_join }
-
-      -- what a branch leaves, by a label
-      record LeftBy (p j : ℕ) (s : Site) : Type 0 where
-        one : Option Pos
-        leaves : Leaves nest one p
-        of : IsLabelOf nest s.around j one
-
-      left_by : (p l j : ℕ) (s : Site) → IsSite S p s → Branches s.head l → j ≤ l → LeftBy p j s
-      left_by p l j s there br le =
-          let x = site_spot nest (slice_get nest p) (slice_get S p) s (fits_at nest nest S p fit) there in
-          let m = branch_of (form_of_head s.head) (branch_form s.head l br) in
-          let far = furthest s.head m.0 m.1 in
-          let more = far.1 l br in
-          let h = label_passes nest s.around x.0.around j m.0 x.1.1.chain (omega (arith, le, more)) (x.1.1.exist m.0 far.0) in
-          record {
-            one = h.0;
-            leaves = record { spot = x.0; label = m.0; at = x.1.0; live = x.1.1.live; branches = x.1.1.form ∙ m.1; passes = h.1.0 };
-            of =
-                h.1.1;
-          }
 
       latest_of : (one : Option Pos) → (near (node_of one)).latest ≡ exit_of exits one
       latest_of None = refl
