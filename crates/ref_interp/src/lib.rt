@@ -11,3 +11,4 @@ mod run;
 mod step;
 
 pub use invocation::{InvokeEnd, Run, invoke};
+pub use numbers::value_for;

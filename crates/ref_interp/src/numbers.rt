@@ -50,7 +50,7 @@ pub(crate) fn kind_of(value: Value) -> ValType
 }
 
 /// The value of the type that a number in its range stands for: a negative one stands for itself and 2 to the width.
-pub(crate) fn value_for(kind: ValType, number: i128) -> Value
+pub fn value_for(kind: ValType, number: i128) -> Value
     requires { in_range kind number ≡ true }
     ensures { result ≡ value_for kind number }
 {

@@ -1,0 +1,4 @@
+pub mod Law
+pub mod Runs
+pub mod Steps
+pub mod Values
