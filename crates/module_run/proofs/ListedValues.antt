@@ -16,7 +16,8 @@ use Rattle.module_run.specs.Values.{values_for}
 abbrev pub joined : List Value → Option (List Value) → Option (List Value)
 joined front rest = option_and_then (λ vs. Some (front ++ vs)) rest
 
-none_before : (b : Bool) (v : Value) (rest : Option (List Value)) → rest ≡ None → (if b then option_and_then (λ vs. Some (v ∷ vs)) rest else None) ≡ None
+none_before : (b : Bool) (v : Value) (rest : Option (List Value)) → rest ≡ None
+    → (if b then option_and_then (λ vs. Some (v ∷ vs)) rest else None) ≡ None
 none_before true v rest h = ap (option_and_then (λ vs. Some (v ∷ vs))) h
 none_before false v rest h = refl
 
@@ -26,7 +27,8 @@ lengths_differ [] (z ∷ zs) n = refl
 lengths_differ (t ∷ ts) [] n = refl
 lengths_differ (t ∷ ts) (z ∷ zs) n = none_before (in_range t z) (value_for t z) (values_for ts zs) (lengths_differ ts zs (λ e. n (ap suc e)))
 
-one_more : (front : List Value) (v : Value) (rest : Option (List Value)) → joined (front ++ v ∷ []) rest ≡ joined front (option_and_then (λ vs. Some (v ∷ vs)) rest)
+one_more : (front : List Value) (v : Value) (rest : Option (List Value))
+    → joined (front ++ v ∷ []) rest ≡ joined front (option_and_then (λ vs. Some (v ∷ vs)) rest)
 one_more front v None = refl
 one_more front v (Some vs) = ap Some (append_assoc front (v ∷ []) vs)
 

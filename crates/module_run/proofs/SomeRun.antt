@@ -90,7 +90,13 @@ module _ (m : Module) (sealed : IsSealed m) (f i : ℕ) (F : FuncType) (at : typ
         final = last;
         events = all;
         outcome = (subst (λ vs. Ends m f i args s (Returned vs) last all) same e, omega arith, omega arith);
-        kept = inr (record { value = first_of results; turns = last.turns - s.turns; is = refl; typed = subst (λ vs. HaveTypes vs F.results) same kept; fits = fit });
+        kept = inr (record {
+          value = first_of results;
+          turns = last.turns - s.turns;
+          is = refl;
+          typed = subst (λ vs. HaveTypes vs F.results) same kept;
+          fits = fit;
+        });
       })
 
   -- that there is none is impossible

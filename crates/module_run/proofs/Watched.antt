@@ -90,7 +90,8 @@ module _ (Z : Fixed) (w w' : ℕ → Bool) where
   leaf_alike b m m' (instr.BrTable labels other) rest rest' ls h f = top_alike h.stack h _ _ (λ v st. record { outcome = refl; there = refl })
   leaf_alike b m m' instr.Return rest rest' ls h f = record { outcome = refl; there = refl }
   leaf_alike b m m' instr.Unreachable rest rest' ls h f = record { outcome = refl; there = refl }
-  leaf_alike b m m' op rest rest' ls h f = do_alike m m' (takes (callees Z.m) op) h (effect Z b.call op (take (takes (callees Z.m) op) h.stack) h.store) (run Z b ls rest) (run Z b ls rest') f
+  leaf_alike b m m' op rest rest' ls h f =
+      do_alike m m' (takes (callees Z.m) op) h (effect Z b.call op (take (takes (callees Z.m) op) h.stack) h.store) (run Z b ls rest) (run Z b ls rest') f
 
   run_alike : (b : Below) → SameLaps b → (code : Code) (p : ℕ) (ls : List ℕ) (h : Here)
       → Alike (run Z b ls (marked w p code) h) (run Z b ls (marked w' p code) h)
@@ -110,7 +111,8 @@ module _ (Z : Fixed) (w w' : ℕ → Bool) where
       after_alike _ _ _ _
       (then_alike _ _ _ _
       (leave_alike st _ _
-      (zero_alike (number_of v) _ _ _ _ (run_alike b s y (p + 1 + count x) (arity t ∷ ls) (at_stack [] h)) (run_alike b s x (p + 1) (arity t ∷ ls) (at_stack [] h))))
+      (zero_alike (number_of v) _ _ _ _ (run_alike b s y (p + 1 + count x) (arity t ∷ ls) (at_stack [] h))
+      (run_alike b s x (p + 1) (arity t ∷ ls) (at_stack [] h))))
       (λ h1. run_alike b s rest (p + 1 + count x + count y) ls h1)))
 
   same_laps : (F : Below → Calls) (n : ℕ) → SameLaps (below Z F n)

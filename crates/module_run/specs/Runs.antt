@@ -50,8 +50,8 @@ after_turns before (ended.Returned value turns) = ended.Returned value (before +
 after_turns before (ended.Trapped reason turns) = ended.Trapped reason (before + turns)
 after_turns before ended.OutOfTurns = ended.OutOfTurns
 
--- how a run ends: a segment doesn't fit, the first that doesn't; or the start function doesn't return; or as the function ends that is called then, with what is
--- seen at position i of its body. Both share the budget, and the turns are counted together.
+-- how a run ends: a segment doesn't fit, the first that doesn't; or the start function doesn't return; or as the function ends that is called then, with
+-- what is seen at position i of its body. Both share the budget, and the turns are counted together.
 pub data RunEnds : Type 0 where
   ElemOut : (k : ℕ) → RunEnds
   DataOut : (k : ℕ) → RunEnds
@@ -79,8 +79,8 @@ ends_as (end.DataOut k) = DataOut k
 ends_as (end.InStart ended) = InStart ended
 ends_as (end.Ran ended trace) = Ran ended trace.items
 
--- What is answered: how the run ends, with what is seen at the watched position; or that the memory begins with more pages than a run may have. An allocation may
--- be refused.
+-- What is answered: how the run ends, with what is seen at the watched position; or that the memory begins with more pages than a run may have. An
+-- allocation may be refused.
 abbrev pub Runs : Module → ℕ → Option Pos → List Value → List Reply → ℕ → Result RunEnd RunRefusal → Type 0
 Runs m f watch args replies budget (Ok answer) =
     (least (mems_of m) ≤ most_run_pages) × ((i : ℕ) → Watches m f watch i → RunsTo m f i args replies budget (ends_as answer))

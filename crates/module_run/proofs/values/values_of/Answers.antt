@@ -18,7 +18,8 @@ returns-in_default c =
     let t = get_or ts i type.I32 in
     let z = get_or zs i (pos 0) in
     let number : to_z w128 (of_z w128 z) ≡ z = search rules in
-    let e : c.value_of.result ≡ (if in_range t z then Some (value_for t z) else None) = c.value_of.ensures ∙ ap (λ n. if in_range t n then Some (value_for t n) else None) number in
+    let e : c.value_of.result ≡ (if in_range t z then Some (value_for t z) else None) =
+    c.value_of.ensures ∙ ap (λ n. if in_range t n then Some (value_for t n) else None) number in
     value_unfit type.I32 (pos 0) ts zs i c.loop-i.values.items c.loop-i-test.true (omega arith) (unfit (in_range t z) (value_for t z) (sym c.in_default.is ∙ e))
     c.loop-i.invariant
 
@@ -30,7 +31,8 @@ loop-i-preserved c =
     let t = get_or ts i type.I32 in
     let z = get_or zs i (pos 0) in
     let number : to_z w128 (of_z w128 z) ≡ z = search rules in
-    let e : c.value_of.result ≡ (if in_range t z then Some (value_for t z) else None) = c.value_of.ensures ∙ ap (λ n. if in_range t n then Some (value_for t n) else None) number in
+    let e : c.value_of.result ≡ (if in_range t z then Some (value_for t z) else None) =
+    c.value_of.ensures ∙ ap (λ n. if in_range t n then Some (value_for t n) else None) number in
     let h = fit (in_range t z) (value_for t z) c.in-Some.value (sym c.in-Some.is ∙ e) in
     let items : c.push_value.new.values.items ≡ c.loop-i.values.items ++ value_for t z ∷ [] =
     c.in_ok-push_value.ensures ∙ ap (λ v. c.loop-i.values.items ++ v ∷ []) h.1 in
