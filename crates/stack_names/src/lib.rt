@@ -7,6 +7,7 @@ mod groups;
 mod labels;
 mod lists;
 mod naming;
+mod part;
 mod place;
 mod plain;
 mod push;

@@ -1,9 +1,10 @@
 //! The places that each position takes and shows, in one vector.
 
-ghost use Rattle.std.specs.Prelude.{◌≡◌, ◌-◌, ◌≤◌, ◌++◌, ◌∷◌, [], IfOk, drop, length, slice_get, slice_range};
+ghost use Rattle.std.specs.Prelude.{◌≡◌, ◌≤◌, ◌++◌, ◌∷◌, [], IfOk, drop, length, slice_get};
 ghost use Rattle.stack_names.specs.Named.{is_live_in, operands_in, stack_in};
 ghost use Rattle.stack_names.specs.Spans.{span_of};
 
+use crate::part::part;
 use crate::place::Place;
 use crate::push::push;
 use std::alloc::Global;
@@ -46,15 +47,6 @@ fn span_at(spans: &[Option<Span>], pos: usize) -> Option<Span>
         Some(span) => *span,
         None => None,
     }
-}
-
-/// The places from one number on to another.
-fn part(places: &[Place], start: usize, end: usize) -> &[Place]
-    requires order { start ≤ end }
-    requires within { end ≤ length places.now }
-    ensures { result.now ≡ slice_range places.now start end }
-{
-    &places[start..end]
 }
 
 impl Lists {
