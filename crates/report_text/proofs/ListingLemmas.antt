@@ -1,26 +1,30 @@
 -- The texts of a listing, one piece after the other.
-use Rattle.std.proofs.Common.{◌≡◌, ℕ, zero, suc, ◌+◌, ◌<◌, ◌^◌, ◌≤◌, Bool, true, false, List, [], ◌∷◌, ◌++◌, Option, Result, Ok, Err, IfOk, OnOk, length, refl, ap, subst, sym, ◌∙◌, append_assoc, append-nil, codes, arith}
+use Rattle.std.proofs.Common.{◌≡◌, ℕ, zero, suc, ◌+◌, ◌-◌, ◌*◌, ◌≤◌, Bool, true, false, List, [], ◌∷◌, ◌++◌, Option, Result, Ok, Err, IfOk, length, take, replicate, refl, ap, ap₂, sym, ◌∙◌, append_assoc, append-nil, codes, arith}
 use Rattle.std.specs.Prelude.{if◌then◌else◌, ◌==◌}
+use Rattle.std.proofs.lemmas.List.{take_all}
 use Rattle.wasm_types.specs.Nodes.{Join}
 use Rattle.wasm_types.specs.declared.module.ValType.{ValType}
 use Rattle.wasm_types.specs.declared.instr.Instr.{Instr, Block', Loop', If'}
 use Rattle.wasm_types.specs.declared.instr.Instr.TheVariants.{Block, Loop, If}
 use Rattle.wasm_types.specs.declared.place.Node.{Node}
 use Rattle.wasm_types.specs.declared.place.Taker.{Taker}
-use Rattle.wasm_types.specs.Code.{Code, done, one, block, repeat, branch, onto, code_of_row, code_of, is_plain, count}
+use Rattle.wasm_types.specs.Code.{Code, done, block, repeat, branch, onto, code_of_row, code_of, is_plain, count}
 use Rattle.wasm_types.proofs.CodeLemmas.{onto-block, onto-loop, onto-if, onto-one}
 use Rattle.report_text.specs.InstructionTexts.{block_text, instruction_text}
-use Rattle.report_text.specs.Listing.{Told, arms_lines, closing_line, contents_lines, else_lines, end_makers, ended_by, ends_at, indent, last_arm, lines, maker_at, makers_in, position_line, with_else, with_end}
+use Rattle.report_text.specs.Listing.{Told, arms_lines, closing_line, contents_lines, else_lines, end_makers, ended_by, ends_at, indent, last_arm, lines, maker_at, makers_in, position_line}
 
-indent_more : (depth : ℕ) → indent (suc depth) ≡ indent depth ++ codes "  "
-indent_more zero = refl
-indent_more (suc depth) = ap (λ (l : List ℕ). codes "  " ++ l) (indent_more depth)
+spaces : (depth : ℕ) → indent depth ≡ replicate (2 * depth) 32
+spaces zero = refl
+spaces (suc depth) =
+    let e : suc (suc (2 * depth)) ≡ 2 * suc depth = omega arith in
+    ap (λ (l : List ℕ). 32 ∷ 32 ∷ l) (spaces depth) ∙ ap (λ n. replicate n 32) e
 
-pub indent_next : (begun items now : List ℕ) (depth : ℕ) → items ≡ begun ++ indent depth → now ≡ items ++ codes "  " → now ≡ begun ++ indent (depth + 1)
-indent_next begun items now depth h added =
-    let next : suc depth ≡ depth + 1 = omega arith in
-    added ∙ ap (λ l. l ++ codes "  ") h ∙ append_assoc begun (indent depth) (codes "  ") ∙ ap (λ l. begun ++ l) (sym (indent_more depth))
-    ∙ ap (λ d. begun ++ indent d) next
+-- a text that was made longer by spaces
+pub indented : (begun now : List ℕ) (long depth : ℕ) → long ≡ length begun + 2 * depth → now ≡ take long begun ++ replicate (long - length begun) 32 → now ≡ begun ++ indent depth
+indented begun now long depth e h =
+    let le : length begun ≤ long = omega arith in
+    let f : long - length begun ≡ 2 * depth = omega arith in
+    h ∙ ap₂ {A = List ℕ} {B = List ℕ} (λ a b. a ++ b) (take_all long begun le) (ap (λ n. replicate n 32) f ∙ sym (spaces depth))
 
 -- ---- the first instruction of a sequence, and those after it
 

@@ -67,11 +67,11 @@ fn push_operands(out: &mut Vec<u8>, names: &Names, at: u32) -> Result<(), AllocE
 
 /// Adds two spaces for each block around.
 fn push_indent(out: &mut Vec<u8>, depth: usize) -> Result<(), AllocError>
+    requires { depth < 2 ^ 32 }
     ensures { OnOk result (out.new.items ≡ out.old.items ++ indent depth) }
 {
-    for _ in 0..depth {
-        push_text(out, "  ")?;
-    }
+    let long = out.as_slice().len() + 2 * depth;
+    out.resize(long, b' ')?;
     Ok(())
 }
 
@@ -82,6 +82,7 @@ fn push_closing(
     words: &str,
     makers: &[Node],
 ) -> Result<(), AllocError>
+    requires { depth < 2 ^ 32 }
     ensures { OnOk result (out.new.items ≡ out.old.items ++ closing_line depth words.now makers.now) }
 {
     push_text(out, ". ")?;
@@ -96,6 +97,7 @@ fn push_closing(
 
 /// Adds what stands before an instruction: its position, and two spaces for each block around it.
 fn push_beginning(out: &mut Vec<u8>, at: u32, depth: usize) -> Result<(), AllocError>
+    requires { depth < 2 ^ 32 }
     ensures { OnOk result (out.new.items ≡ out.old.items ++ (decimal at ++ (codes " " ++ indent depth))) }
 {
     push_number(out, at)?;
@@ -111,6 +113,7 @@ fn push_plain(
     at: u32,
     depth: usize,
 ) -> Result<(), AllocError>
+    requires { depth < 2 ^ 32 }
     ensures { OnOk result (out.new.items ≡ out.old.items ++ position_line (told_by names.now) depth at (instruction_text instr.now)) }
 {
     push_beginning(out, at, depth)?;
@@ -128,6 +131,7 @@ fn push_opening(
     at: u32,
     depth: usize,
 ) -> Result<(), AllocError>
+    requires { depth < 2 ^ 32 }
     ensures { OnOk result (out.new.items ≡ out.old.items ++ position_line (told_by names.now) depth at (block_text words.now kind)) }
 {
     push_beginning(out, at, depth)?;
