@@ -109,7 +109,7 @@ same_lines K L depth (branch kind x y rest) p same =
 
 -- ---- the listing
 
-own_body : (m : Module) (f : ℕ) (b : Body) → body_of m f ≡ Some b → slice_get m.bodies (f - import_count m) ≡ Some b
+pub own_body : (m : Module) (f : ℕ) (b : Body) → body_of m f ≡ Some b → slice_get m.bodies (f - import_count m) ≡ Some b
 own_body m f b e = go (nat_lt f (import_count m)) (nat_lt f (length (func_types m))) e
   where
     go : (q r : Bool) → (if q || not r then None else slice_get m.bodies (f - import_count m)) ≡ Some b → slice_get m.bodies (f - import_count m) ≡ Some b

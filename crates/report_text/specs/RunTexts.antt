@@ -60,8 +60,15 @@ ended_lines in_start (ended.Returned value turns) = line_of (codes "returned" �
 ended_lines in_start (ended.Trapped why turns) = line_of (trapped_in in_start ∷ reason_text why ∷ []) ++ turns_line turns
 ended_lines in_start ended.OutOfTurns = line_of (codes "out of turns" ∷ [])
 
+-- a segment that doesn't fit
+abbrev pub elem_line : ℕ → List ℕ
+elem_line k = line_of (codes "element segment " ∷ decimal k ∷ codes " does not fit" ∷ [])
+
+abbrev pub data_line : ℕ → List ℕ
+data_line k = line_of (codes "data segment " ∷ decimal k ∷ codes " does not fit" ∷ [])
+
 -- what is printed of it: the events, and then how it ended
 abbrev pub run_lines : Outcome → List ℕ
 run_lines (outcome.Ran ended trace in_start) = event_lines trace.items ++ ended_lines in_start ended
-run_lines (outcome.ElemOut k) = line_of (codes "element segment " ∷ decimal k ∷ codes " does not fit" ∷ [])
-run_lines (outcome.DataOut k) = line_of (codes "data segment " ∷ decimal k ∷ codes " does not fit" ∷ [])
+run_lines (outcome.ElemOut k) = elem_line k
+run_lines (outcome.DataOut k) = data_line k

@@ -60,7 +60,10 @@ query_texts of_query.Unbuilt = codes "not built yet" ∷ []
 query_texts (of_query.NoFunction func) = codes "no function " ∷ decimal func ∷ []
 query_texts (of_query.Imported func) = codes "function " ∷ decimal func ∷ codes " is imported" ∷ []
 query_texts (of_query.NoInstruction at count) = codes "no instruction " ∷ decimal at ∷ codes ", function has " ∷ decimal count ∷ []
+query_texts (of_query.Dead at) = codes "instruction " ∷ decimal at ∷ codes " is dead" ∷ []
 query_texts of_query.NameTaken = codes "export name taken" ∷ []
+query_texts of_query.BadArguments = codes "arguments do not fit" ∷ []
+query_texts (of_query.TooManyPages min) = codes "memory of " ∷ decimal min ∷ codes " pages is over 1024" ∷ []
 
 -- what is refused, and why
 abbrev pub refusal_texts : Refusal → List (List ℕ)

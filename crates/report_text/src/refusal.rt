@@ -65,6 +65,12 @@ pub enum QueryRefusal {
     Imported { func: u32 },
     /// The function has only `count` instructions.
     NoInstruction { at: u32, count: u32 },
+    /// The instruction is dead: no run reaches it.
+    Dead { at: u32 },
     /// An export of the module has the name already.
     NameTaken,
+    /// The arguments differ from the function's parameters in number, or one is out of its type's range.
+    BadArguments,
+    /// The memory begins with `min` pages, which are more than a run may have.
+    TooManyPages { min: u32 },
 }

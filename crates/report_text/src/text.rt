@@ -84,7 +84,12 @@ fn query_end(alloc: Global, cause: QueryRefusal) -> Result<String, AllocError>
         QueryRefusal::NoInstruction { at, count } => {
             format!(in alloc; "no instruction {at}, function has {count}\n")
         }
+        QueryRefusal::Dead { at } => format!(in alloc; "instruction {at} is dead\n"),
         QueryRefusal::NameTaken => format!(in alloc; "export name taken\n"),
+        QueryRefusal::BadArguments => format!(in alloc; "arguments do not fit\n"),
+        QueryRefusal::TooManyPages { min } => {
+            format!(in alloc; "memory of {min} pages is over 1024\n")
+        }
     }
 }
 
