@@ -1,15 +1,23 @@
 -- No answer has the status of a fault or of an allocation that is refused, and only refused words have that of refused words.
-use Rattle.std.proofs.Common.{◌≡◌, ◌≢◌, ◌⊎◌, ◌<◌, ℕ, List, sym, ap, inl, inr, arith, Option, None, Some, Err, refl, subst}
+use Rattle.std.proofs.Common.{◌≡◌, ◌≢◌, ◌⊎◌, ◌<◌, ℕ, ℤ, List, sym, ap, inl, inr, arith, Option, None, Some, Err, refl, subst}
 use Rattle.wasm_types.specs.declared.module.Module.{Module}
+use Rattle.wasm_types.specs.declared.run.Ended.{Ended}
+use Rattle.wasm_types.specs.declared.run.Ended.TheVariants as ended
+use Rattle.wasm_types.specs.declared.run.Reply.{Reply}
+use Rattle.module_run.specs.Runs.{RunEnds}
+use Rattle.module_run.specs.Runs.RunEnds.{ElemOut, DataOut, InStart, Ran}
 use Rattle.report_text.specs.declared.refusal.QueryRefusal.{QueryRefusal}
 use Rattle.report_text.specs.Listing.{listing}
 use Rattle.wasm_decode.specs.Decode.{Decodes}
 use Rattle.wasm_validate.specs.Admission.{Refuses}
 use Rattle.wassail_top.specs.Orders.{Order}
-use Rattle.wassail_top.specs.Orders.Order.{check, rewrite, list, slice}
+use Rattle.wassail_top.specs.Orders.Order.{check, rewrite, list, slice, run, trace}
 use Rattle.wassail_top.specs.Answers.{Answers, AnswersOrder, AnswersModule, AnswersAdmitted, IsDue, bytes_alone}
 use Rattle.wassail_top.specs.Refusals.{Answer, unless_refused, why_no_code, why_not_decoded, why_not_admitted, why_not_sliced}
 use Rattle.slice_whole.specs.Slices as query
+use Rattle.wassail_top.specs.Queries.{positions_of, why_not_run, why_not_traced}
+use Rattle.wassail_top.specs.RunAnswers.{AnswersUnless, IsRunAs, ended_status, run_status}
+use Rattle.wassail_top.specs.Statuses.{status_code}
 use Rattle.wassail_top.specs.Words.{order_of}
 use Rattle.wassail_top.specs.Outcome.{ReadFailed, GaveAll}
 use Rattle.wassail_top.proofs.Causes.{module_status, query_status}
@@ -32,6 +40,23 @@ calm_unless : (why : Option QueryRefusal) (bytes : List ℕ) (answer : Answer) �
 calm_unless None bytes answer h = calm_at answer 0 (ap (λ (a : Answer). a.status) h) (inl (omega arith))
 calm_unless (Some why) bytes answer h = calm_at answer 6 (ap (λ (a : Answer). a.status) h) (inr (omega arith))
 
+calm_ended : (e : Ended) → IsCalm (status_code (ended_status e))
+calm_ended (ended.Returned value turns) = calm 0 (inl (omega arith))
+calm_ended (ended.Trapped reason turns) = calm 7 (inr (omega arith))
+calm_ended ended.OutOfTurns = calm 8 (inr (omega arith))
+
+calm_run : (e : RunEnds) → IsCalm (status_code (run_status e))
+calm_run (ElemOut k) = calm 7 (inr (omega arith))
+calm_run (DataOut k) = calm 7 (inr (omega arith))
+calm_run (InStart e) = calm_ended e
+calm_run (Ran e events) = calm_ended e
+
+calm_unless_run : (m : Module) (f i budget : ℕ) (args : List ℤ) (replies : List Reply) (why : Option QueryRefusal) (answer : Answer)
+    → AnswersUnless why (IsRunAs m f i budget args replies) answer → IsCalm answer.status
+calm_unless_run m f i budget args replies None answer h =
+    subst (λ (n : ℕ). IsCalm n) (sym (ap (λ (a : Answer). a.status) h.is)) (calm_run h.ends)
+calm_unless_run m f i budget args replies (Some why) answer h = calm_at answer 6 (ap (λ (a : Answer). a.status) h) (inr (omega arith))
+
 calm_admitted : (order : Order) (m : Module) (answer : Answer) → AnswersAdmitted order m answer → IsCalm answer.status
 calm_admitted check m answer h = calm_at answer 0 (ap (λ (a : Answer). a.status) h) (inl (omega arith))
 calm_admitted rewrite m answer h = calm_at answer 0 (ap (λ (a : Answer). a.status) h) (inl (omega arith))
@@ -40,6 +65,9 @@ calm_admitted (slice func at name) m answer (inl unbuilt) = calm_at answer 6 (ap
 calm_admitted (slice func at name) m answer (inr (flat, inl bad)) =
     calm_at answer 6 (query_status (query.Refuses m func at name) (why_not_sliced func at) answer bad) (inr (omega arith))
 calm_admitted (slice func at name) m answer (inr (flat, inr sliced)) = calm_at answer 0 (ap (λ (a : Answer). a.status) sliced.is) (inl (omega arith))
+calm_admitted (run func budget args replies) m answer h =
+    calm_unless_run m func (positions_of m func) budget args replies (why_not_run m func args) answer h
+calm_admitted (trace func at budget args replies) m answer h = calm_unless_run m func at budget args replies (why_not_traced m func at args) answer h
 
 calm_module : (order : Order) (m : Module) (answer : Answer) → AnswersModule order m answer → IsCalm answer.status
 calm_module order m answer (inl bad) = calm_at answer 1 (module_status (Refuses m) why_not_admitted answer bad) (inl (omega arith))

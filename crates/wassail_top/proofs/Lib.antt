@@ -12,5 +12,9 @@ mod NotRefuted
 mod SomeAdmission
 mod SomeDecoding
 mod SomeSlice
+mod RunLemmas
+mod ListedWords
+mod SightLemmas
+mod Unless
 mod SomeAnswer
 pub mod NoCode

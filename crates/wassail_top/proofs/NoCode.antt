@@ -1,14 +1,16 @@
--- When nothing can be told of the code of a function.
+-- When nothing can be told of the code of a function, and when something can.
 use Rattle.std.proofs.Common.{◌≡◌, ℕ, ◌+◌, ◌<◌, ◌≤◌, ◌^◌, Bool, true, false, List, length, Option, Some, None, refl, sym, ap, ◌∙◌, arith, nat_lt, length-append, slice_get, get_or, []}
 use Rattle.std.specs.Prelude.{◌-◌, ◌||◌, not, if◌then◌else◌}
 use Rattle.std.proofs.lemmas.Bool.Decides.{nat_tests}
 use Rattle.std.proofs.lemmas.Option.{slice_get-get_or}
 use Rattle.wasm_types.specs.declared.module.Body.{Body}
+use Rattle.wasm_types.specs.declared.module.FuncType.{FuncType}
 use Rattle.wasm_types.specs.declared.module.Module.{Module}
 use Rattle.wasm_types.specs.declared.place.LimitKind.TheVariants as limit
-use Rattle.wasm_types.specs.Spaces.{body_of, func_types, import_count, imported, func_import}
+use Rattle.wasm_types.specs.Spaces.{body_of, func_types, import_count, imported, func_import, type_of_func}
 use Rattle.wasm_types.specs.Subset.{IsSealed}
 use Rattle.wasm_types.specs.Validity.{IsValid}
+use Rattle.stack_names.proofs.NameLemmas.{own_body, own_typed}
 use Rattle.report_text.specs.declared.refusal.QueryRefusal.{QueryRefusal}
 use Rattle.report_text.specs.declared.refusal.QueryRefusal.TheVariants as of_query
 use Rattle.wassail_top.specs.Refusals.{why_no_code}
@@ -36,3 +38,26 @@ imported_code m f valid lt none = go (nat_lt f (import_count m)) refl (nat_lt f 
         let there : f - import_count m < length m.bodies = omega (arith, own, lt, long, same) in
         let some = slice_get-get_or m.bodies (f - import_count m) (record { locals = []; code = [] }) there in
         let both : None ≡ Some (get_or m.bodies (f - import_count m) (record { locals = []; code = [] })) = sym e ∙ some in absurd cc
+
+-- ---- functions with code
+
+-- a function of which something can be told is an own one
+pub has_code : (m : Module) (f : ℕ) → why_no_code m f ≡ None → (import_count m ≤ f) × (f < length (func_types m))
+has_code m f none = go (nat_lt f (import_count m)) refl (nat_lt f (length (func_types m))) refl none
+  where
+    go : (p : Bool) → nat_lt f (import_count m) ≡ p → (q : Bool) → nat_lt f (length (func_types m)) ≡ q → why_by p q f ≡ None
+        → (import_count m ≤ f) × (f < length (func_types m))
+    go true is q was e = absurd cc
+    go false is false was e = absurd cc
+    go false is true was e = (grind (arith, nat_tests, is), grind (arith, nat_tests, was))
+
+pub some_of : {A : Type 0} (o : Option A) → (o ≡ None → ⊥) → (x : A) × (o ≡ Some x)
+some_of None never = absurd (never refl)
+some_of (Some x) never = (x, refl)
+
+-- it has a type and a body
+pub has_type : (m : Module) (f : ℕ) → IsValid m → why_no_code m f ≡ None → (t : FuncType) × (type_of_func m f ≡ Some t)
+has_type m f valid none = let own = has_code m f none in some_of (type_of_func m f) (own_typed m valid f own.0 own.1)
+
+pub has_body : (m : Module) (f : ℕ) → IsValid m → why_no_code m f ≡ None → (b : Body) × (body_of m f ≡ Some b)
+has_body m f valid none = let own = has_code m f none in some_of (body_of m f) (own_body m valid f own.0 own.1)

@@ -8,8 +8,9 @@ use Rattle.wasm_decode.specs.Decode.{Decodes}
 use Rattle.wasm_validate.specs.Admission.{Refuses}
 use Rattle.wassail_top.specs.Answers.{Answers, AnswersOrder, AnswersBytes, AnswersModule, AnswersAdmitted, most_bytes}
 use Rattle.wassail_top.specs.Orders.{Order}
-use Rattle.wassail_top.specs.Orders.Order.{check, rewrite, list, slice}
+use Rattle.wassail_top.specs.Orders.Order.{check, rewrite, list, slice, run, trace}
 use Rattle.wassail_top.specs.Refusals.{Answer, why_not_decoded, why_not_admitted}
+use Rattle.wassail_top.specs.Queries.{positions_of, why_not_run, why_not_traced}
 use Rattle.wassail_top.specs.Words.{order_of}
 use Rattle.wassail_top.proofs.Causes.{one_refused}
 use Rattle.wassail_top.proofs.OneAdmission as admission
@@ -18,12 +19,15 @@ use Rattle.wassail_top.proofs.OneDecoding as decoding
 use Rattle.wassail_top.proofs.OneDecoding.{decoded_not_refused}
 use Rattle.wassail_top.proofs.OneSlice.{one_slice}
 use Rattle.wassail_top.proofs.Reading.{all_taken, not_long}
+use Rattle.wassail_top.proofs.RunLemmas.{one_run_answer}
 
 of_admitted : (order : Order) (m : Module) (a b : Answer) → AnswersAdmitted order m a → AnswersAdmitted order m b → a ≡ b
 of_admitted check m a b p q = p ∙ sym q
 of_admitted rewrite m a b p q = p ∙ sym q
 of_admitted (list func) m a b p q = p ∙ sym q
 of_admitted (slice func at name) m a b p q = one_slice func at name m a b p q
+of_admitted (run func budget args replies) m a b p q = one_run_answer m func (positions_of m func) budget args replies (why_not_run m func args) a b p q
+of_admitted (trace func at budget args replies) m a b p q = one_run_answer m func at budget args replies (why_not_traced m func at args) a b p q
 
 of_module : (order : Order) (m : Module) (a b : Answer) → AnswersModule order m a → AnswersModule order m b → a ≡ b
 of_module order m a b (inl p) (inl q) = one_refused refusal.Module (Refuses m) why_not_admitted a b (admission.one_end m) p q

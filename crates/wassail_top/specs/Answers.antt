@@ -21,8 +21,10 @@ use Rattle.flow_domain.specs.Sliced.{func_count, IsSliced}
 use Rattle.slice_whole.specs.Slices.{Refuses}
 use Rattle.flow_domain.specs.Sliced.{HasExport}
 use Rattle.wassail_top.specs.Orders.{Order, most_name_bytes}
-use Rattle.wassail_top.specs.Orders.Order.{check, rewrite, list, slice}
+use Rattle.wassail_top.specs.Orders.Order.{check, rewrite, list, slice, run, trace}
+use Rattle.wassail_top.specs.Queries.{positions_of, why_not_run, why_not_traced}
 use Rattle.wassail_top.specs.Refusals.{Answer, refused, HasNoRefusal, IsRefused, unless_refused, why_no_code, why_not_decoded, why_not_admitted, why_not_sliced}
+use Rattle.wassail_top.specs.RunAnswers.{AnswersUnless, IsRunAs, IsStatusOfRun}
 use Rattle.wassail_top.specs.Words.{order_of}
 
 -- the greatest number of bytes that a module may have
@@ -65,6 +67,10 @@ AnswersAdmitted check m answer = answer ≡ bytes_alone valid_line
 AnswersAdmitted rewrite m answer = answer ≡ bytes_alone (canon m)
 AnswersAdmitted (list func) m answer = answer ≡ unless_refused (why_no_code m func) (bytes_alone (listing m func))
 AnswersAdmitted (slice func at name) m answer = AnswersSlice func at name m answer
+-- nothing is seen past the last position
+AnswersAdmitted (run func budget args replies) m answer =
+    AnswersUnless (why_not_run m func args) (IsRunAs m func (positions_of m func) budget args replies) answer
+AnswersAdmitted (trace func at budget args replies) m answer = AnswersUnless (why_not_traced m func at args) (IsRunAs m func at budget args replies) answer
 
 -- the query isn't refused about the module
 abbrev pub IsTaken : Order → Module → Type 0
@@ -72,6 +78,17 @@ IsTaken check m = ⊤
 IsTaken rewrite m = ⊤
 IsTaken (list func) m = why_no_code m func ≡ None
 IsTaken (slice func at name) m = IsFlat m × HasNoRefusal (Refuses m func at name) (why_not_sliced func at)
+IsTaken (run func budget args replies) m = why_not_run m func args ≡ None
+IsTaken (trace func at budget args replies) m = why_not_traced m func at args ≡ None
+
+-- The status where the query isn't refused: that of how the run ends, and else 0.
+abbrev pub HasStatus : Order → Module → ℕ → Type 0
+HasStatus check m status = status ≡ 0
+HasStatus rewrite m status = status ≡ 0
+HasStatus (list func) m status = status ≡ 0
+HasStatus (slice func at name) m status = status ≡ 0
+HasStatus (run func budget args replies) m status = IsStatusOfRun m func (positions_of m func) budget args replies status
+HasStatus (trace func at budget args replies) m status = IsStatusOfRun m func at budget args replies status
 
 -- what a command answers about a module: the first refusal to admit it that holds, or its own answer
 abbrev pub AnswersModule : Order → Module → Answer → Type 0

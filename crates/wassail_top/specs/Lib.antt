@@ -2,8 +2,10 @@ pub mod Answers
 pub mod Orders
 pub mod Outcome
 pub mod Parses
+pub mod Queries
 pub mod Refusals
 pub mod Reply
+pub mod RunAnswers
 pub mod Statuses
 pub mod Words
 pub mod Headline

@@ -1,6 +1,7 @@
 -- A command without where its texts lie in memory.
-use Rattle.std.specs.Prelude.{ℕ, ◌≤◌, List, length, ⊤}
+use Rattle.std.specs.Prelude.{ℕ, ℤ, ◌≤◌, List, length, ⊤}
 use Rattle.std.specs.String.{string_bytes}
+use Rattle.wasm_types.specs.declared.run.Reply.{Reply}
 use Rattle.wasm_types.specs.declared.limits.TheConstants.{MOST_NAME_BYTES}
 use Rattle.wassail_top.specs.declared.words.Command.{Command}
 use Rattle.wassail_top.specs.declared.words.Command.TheVariants as command
@@ -10,12 +11,16 @@ pub data Order : Type 0 where
   rewrite : Order
   list : (func : ℕ) → Order
   slice : (func at : ℕ) (name : List ℕ) → Order
+  run : (func budget : ℕ) (args : List ℤ) (replies : List Reply) → Order
+  trace : (func at budget : ℕ) (args : List ℤ) (replies : List Reply) → Order
 
 abbrev pub order_read : Command → Order
 order_read command.Check = check
 order_read command.Rewrite = rewrite
 order_read (command.List func) = list func
 order_read (command.Slice func at name) = slice func at (string_bytes name)
+order_read (command.Run func budget args replies) = run func budget args.items replies
+order_read (command.Trace func at budget args replies) = trace func at budget args.items replies
 
 -- the greatest number of bytes of a name
 abbrev pub most_name_bytes : ℕ
@@ -27,3 +32,5 @@ HasShortName check = ⊤
 HasShortName rewrite = ⊤
 HasShortName (list func) = ⊤
 HasShortName (slice func at name) = length name ≤ most_name_bytes
+HasShortName (run func budget args replies) = ⊤
+HasShortName (trace func at budget args replies) = ⊤

@@ -1,18 +1,11 @@
 -- The words that are a command (docs/COMMANDS.md).
-use Rattle.std.specs.Prelude.{ℕ, ◌+◌, ◌-◌, ◌*◌, ◌^◌, List, [], ◌∷◌, None, Some, codes, if◌then◌else◌, nat_lt, nat_le, ◌&&◌, length, option_and_then}
+use Rattle.std.specs.Prelude.{ℕ, ℤ, Bool, List, [], ◌∷◌, None, Some, codes, if◌then◌else◌, nat_le, length, option_and_then}
 use Rattle.std.specs.Str.{bytes_eq}
 use Rattle.std.specs.declared.option.Option.{Option}
+use Rattle.wasm_types.specs.declared.run.Reply.{Reply}
+use Rattle.run_words.specs.Words.{number_of, value_of, reply_of}
 use Rattle.wassail_top.specs.Orders.{Order, most_name_bytes}
-use Rattle.wassail_top.specs.Orders.Order.{check, rewrite, list, slice}
-
--- the value of digits after others whose value is n, where it stays below 2^32
-abbrev pub value_from : ℕ → List ℕ → Option ℕ
-value_from n [] = Some n
-value_from n (b ∷ bs) = if nat_le 48 b && nat_le b 57 && nat_lt (10 * n + (b - 48)) (2 ^ 32) then value_from (10 * n + (b - 48)) bs else None
-
--- a number word is 1 to 10 digits with a value below 2^32
-unfoldable pub number_of : List ℕ → Option ℕ
-number_of word = if nat_lt 0 (length word) && nat_le (length word) 10 then value_from 0 word else None
+use Rattle.wassail_top.specs.Orders.Order.{check, rewrite, list, slice, run, trace}
 
 -- the command, where no word follows
 abbrev pub alone : Order → List (List ℕ) → Option Order
@@ -30,6 +23,44 @@ two_and_name order (a ∷ b ∷ name ∷ []) =
     if nat_le (length name) most_name_bytes then option_and_then (λ m. option_and_then (λ n. Some (order m n name)) (number_of b)) (number_of a) else None
 two_and_name order words = None
 
+-- ---- arguments and replies
+
+-- the first / parts the words of arguments from those of replies
+abbrev pub is_slash : List ℕ → Bool
+is_slash word = bytes_eq word (codes "/")
+
+abbrev pub before_slash : List (List ℕ) → List (List ℕ)
+before_slash [] = []
+before_slash (word ∷ words) = if is_slash word then [] else word ∷ before_slash words
+
+abbrev pub behind_slash : List (List ℕ) → List (List ℕ)
+behind_slash [] = []
+behind_slash (word ∷ words) = if is_slash word then words else behind_slash words
+
+-- what all words are, if each of them is one
+abbrev pub each : {A : Type 0} → (List ℕ → Option A) → List (List ℕ) → Option (List A)
+each read [] = Some []
+each read (word ∷ words) = option_and_then (λ a. option_and_then (λ others. Some (a ∷ others)) (each read words)) (read word)
+
+-- the arguments and the replies
+abbrev pub given_of : List (List ℕ) → Option (List ℤ × List Reply)
+given_of words = option_and_then (λ args. option_and_then (λ replies. Some (args, replies)) (each reply_of (behind_slash words))) (each value_of (before_slash words))
+
+-- the command of a function and a budget, with arguments and replies
+abbrev pub running : List (List ℕ) → Option Order
+running (func ∷ budget ∷ words) =
+    option_and_then (λ f. option_and_then (λ b. option_and_then (λ g. Some (run f b g.0 g.1)) (given_of words)) (number_of budget)) (number_of func)
+running words = None
+
+-- the command of a function, a position in it and a budget, with arguments and replies
+abbrev pub tracing : List (List ℕ) → Option Order
+tracing (func ∷ at ∷ budget ∷ words) =
+    option_and_then (λ f. option_and_then (λ i. option_and_then (λ b. option_and_then (λ g. Some (trace f i b g.0 g.1)) (given_of words)) (number_of budget))
+    (number_of at)) (number_of func)
+tracing words = None
+
+-- ---- commands
+
 -- the command with this name and these words after it
 abbrev pub order_named : List ℕ → List (List ℕ) → Option Order
 order_named name rest =
@@ -37,6 +68,8 @@ order_named name rest =
     else if bytes_eq name (codes "rewrite") then alone rewrite rest
     else if bytes_eq name (codes "list") then one list rest
     else if bytes_eq name (codes "slice") then two_and_name slice rest
+    else if bytes_eq name (codes "run") then running rest
+    else if bytes_eq name (codes "trace") then tracing rest
     else None
 
 -- the command that the words are

@@ -1,32 +1,39 @@
 //! What is due on out and err, worked out before anything is written.
 
-ghost use Rattle.std.specs.Prelude.{◌≡◌, ◌≤◌, ◌<◌, ◌^◌, None, length, map, IfOk};
+ghost use Rattle.std.specs.Prelude.{◌≡◌, ◌≤◌, ◌<◌, ◌^◌, ℕ, None, length, map, IfOk};
 ghost use Rattle.std.specs.String.{string_bytes};
 ghost use Rattle.wasm_types.specs.Canon.{canon};
 ghost use Rattle.wasm_types.specs.Subset.{NestsAtMost, most_nesting};
 ghost use Rattle.wasm_types.specs.WellFormed.{IsWellFormed};
 ghost use Rattle.wasm_validate.specs.Admission.{IsAdmitted};
 ghost use Rattle.report_text.specs.Listing.{listing};
+ghost use Rattle.module_run.specs.Runs.{ends_as};
+ghost use Rattle.ref_interp.specs.Invokes.{Watches};
 ghost use Rattle.wassail_top.specs.Answers.{bytes_alone, IsDue, IsDueTo, AnswersAdmitted, AnswersBytes, AnswersFlat, AnswersModule, AnswersSlice, most_bytes, slice_answer};
 ghost use Rattle.slice_whole.specs.Flat.{IsFlat};
 ghost use Rattle.wassail_top.specs.Orders.{HasShortName, most_name_bytes, order_read};
+ghost use Rattle.wassail_top.specs.Queries.{positions_of, why_no_run, why_not_run, why_not_traced};
 ghost use Rattle.wassail_top.specs.Refusals.{refused, unless_refused, why_no_code};
 ghost use Rattle.wassail_top.specs.Reply.{reply_answer};
+ghost use Rattle.wassail_top.specs.RunAnswers.{AnswersUnless, IsRunAs, run_answer};
 ghost use Rattle.wassail_top.specs.Words.{order_of};
 
-use crate::refusals::{admit_refusal, code_refusal, decode_refusal, slice_refusal};
+use crate::refusals::{admit_refusal, code_refusal, decode_refusal, sight_refusal, slice_refusal};
 use crate::status::Status;
 use crate::words::{Command, WordsEnd, parse_words};
+use module_run::{RunEnd, RunRefusal, run, values_of};
 use outside_io::{ReadEnd, Source, read_all};
 use report_text::{
-    ModuleRefusal, QueryRefusal, Refusal, list_text, refusal_text, slice_text, valid_text,
+    ModuleRefusal, Outcome, QueryRefusal, Refusal, list_text, refusal_text, run_text, slice_text,
+    valid_text,
 };
 use slice_whole::{Sliced, is_flat, slice};
+use sqlite_items::Items;
 use stack_names::names;
 use std::alloc::Global;
 use wasm_decode::decode;
 use wasm_encode::encode;
-use wasm_types::{MOST_BYTES, Module, NoMemory, Pos, ValidModule};
+use wasm_types::{MOST_BYTES, Module, NoMemory, Pos, Reply as HostReply, ValidModule};
 use wasm_validate::admit;
 
 /// A status, and what out and err get.
@@ -44,8 +51,8 @@ pub fn due<S: Source>(alloc: Global, words: &[String], source: &mut S) -> Result
     ensures untouched { order_of (map string_bytes words.now) ≡ None → source.new ≡ source.old }
     ensures later { S.faults source.old ≤ S.faults source.new }
 {
-    match parse_words(words) {
-        Ok(command) => read_and_answer(alloc, &command, source),
+    match parse_words(alloc, words) {
+        Ok(command) => read_and_answer(alloc, command, source),
         Err(WordsEnd::Refused) => refuse(alloc, Refusal::Words),
         Err(WordsEnd::Memory) => Err(NoMemory),
     }
@@ -54,11 +61,11 @@ pub fn due<S: Source>(alloc: Global, words: &[String], source: &mut S) -> Result
 // What is due from a command.
 fn read_and_answer<S: Source>(
     alloc: Global,
-    command: &Command,
+    command: Command,
     source: &mut S,
 ) -> Result<Reply, NoMemory>
-    requires name { HasShortName (order_read command.now) }
-    ensures due { IfOk result (λ reply. IsDueTo (order_read command.now) (S.left source.old) (S.left source.new)
+    requires name { HasShortName (order_read command) }
+    ensures due { IfOk result (λ reply. IsDueTo (order_read command) (S.left source.old) (S.left source.new)
         (S.faults source.old) (S.faults source.new) (reply_answer reply)) }
     ensures later { S.faults source.old ≤ S.faults source.new }
 {
@@ -71,10 +78,10 @@ fn read_and_answer<S: Source>(
 }
 
 // What a command answers about the bytes that it has read.
-fn answer_bytes(alloc: Global, command: &Command, bytes: &[u8]) -> Result<Reply, NoMemory>
+fn answer_bytes(alloc: Global, command: Command, bytes: &[u8]) -> Result<Reply, NoMemory>
     requires short { length bytes.now ≤ most_bytes }
-    requires name { HasShortName (order_read command.now) }
-    ensures { IfOk result (λ reply. AnswersBytes (order_read command.now) bytes.now (reply_answer reply)) }
+    requires name { HasShortName (order_read command) }
+    ensures { IfOk result (λ reply. AnswersBytes (order_read command) bytes.now (reply_answer reply)) }
 {
     match decode(alloc, bytes) {
         Ok(form) => answer_module(alloc, command, form),
@@ -86,12 +93,12 @@ fn answer_bytes(alloc: Global, command: &Command, bytes: &[u8]) -> Result<Reply,
 }
 
 // What a command answers about a module: the first refusal to admit it, or the command's own answer.
-fn answer_module(alloc: Global, command: &Command, form: Module) -> Result<Reply, NoMemory>
+fn answer_module(alloc: Global, command: Command, form: Module) -> Result<Reply, NoMemory>
     requires well_formed { IsWellFormed form }
     requires short { length (canon form) ≤ most_bytes }
     requires nesting { NestsAtMost most_nesting form }
-    requires name { HasShortName (order_read command.now) }
-    ensures { IfOk result (λ reply. AnswersModule (order_read command.now) form (reply_answer reply)) }
+    requires name { HasShortName (order_read command) }
+    ensures { IfOk result (λ reply. AnswersModule (order_read command) form (reply_answer reply)) }
 {
     match admit(alloc, form) {
         Ok(valid) => answer_admitted(alloc, command, valid),
@@ -103,11 +110,11 @@ fn answer_module(alloc: Global, command: &Command, form: Module) -> Result<Reply
 }
 
 // What a command answers about an admitted module.
-fn answer_admitted(alloc: Global, command: &Command, valid: ValidModule) -> Result<Reply, NoMemory>
+fn answer_admitted(alloc: Global, command: Command, valid: ValidModule) -> Result<Reply, NoMemory>
     requires admitted { IsAdmitted valid }
     requires short { length (canon valid) ≤ most_bytes }
-    requires name { HasShortName (order_read command.now) }
-    ensures { IfOk result (λ reply. AnswersAdmitted (order_read command.now) valid (reply_answer reply)) }
+    requires name { HasShortName (order_read command) }
+    ensures { IfOk result (λ reply. AnswersAdmitted (order_read command) valid (reply_answer reply)) }
 {
     match command {
         Command::Check => Ok(Reply {
@@ -120,8 +127,21 @@ fn answer_admitted(alloc: Global, command: &Command, valid: ValidModule) -> Resu
             out: encode(alloc, valid.module())?,
             err: Vec::new(alloc),
         }),
-        Command::List { func } => answer_list(alloc, &valid, *func),
-        Command::Slice { func, at, name } => answer_slice(alloc, valid, *func, *at, name.as_str()),
+        Command::List { func } => answer_list(alloc, &valid, func),
+        Command::Slice { func, at, name } => answer_slice(alloc, valid, func, at, name.as_str()),
+        Command::Run {
+            func,
+            budget,
+            args,
+            replies,
+        } => answer_run(alloc, &valid, func, budget, &args, replies),
+        Command::Trace {
+            func,
+            at,
+            budget,
+            args,
+            replies,
+        } => answer_trace(alloc, &valid, func, at, budget, &args, replies),
     }
 }
 
@@ -137,6 +157,103 @@ fn answer_list(alloc: Global, valid: &ValidModule, func: u32) -> Result<Reply, N
     Ok(Reply {
         status: Status::Answered,
         out: list_text(alloc, valid, func, &names)?,
+        err: Vec::new(alloc),
+    })
+}
+
+// What `run` answers about an admitted module.
+fn answer_run(
+    alloc: Global,
+    valid: &ValidModule,
+    func: u32,
+    budget: u32,
+    args: &[i128],
+    replies: Items<HostReply>,
+) -> Result<Reply, NoMemory>
+    requires admitted { IsAdmitted valid.now }
+    ensures { IfOk result (λ reply. AnswersUnless (why_not_run valid.now func args.now)
+        (IsRunAs valid.now func (positions_of valid.now func) budget args.now replies) (reply_answer reply)) }
+{
+    if let Some(cause) = code_refusal(valid, func) {
+        return refuse(alloc, Refusal::Query(cause));
+    }
+    run_code(alloc, valid, func, None, budget, args, replies)
+}
+
+// What `trace` answers about an admitted module.
+fn answer_trace(
+    alloc: Global,
+    valid: &ValidModule,
+    func: u32,
+    at: u32,
+    budget: u32,
+    args: &[i128],
+    replies: Items<HostReply>,
+) -> Result<Reply, NoMemory>
+    requires admitted { IsAdmitted valid.now }
+    ensures { IfOk result (λ reply. AnswersUnless (why_not_traced valid.now func at args.now)
+        (IsRunAs valid.now func at budget args.now replies) (reply_answer reply)) }
+{
+    if let Some(cause) = code_refusal(valid, func) {
+        return refuse(alloc, Refusal::Query(cause));
+    }
+    if let Some(cause) = sight_refusal(alloc, valid, func, at)? {
+        return refuse(alloc, Refusal::Query(cause));
+    }
+    run_code(alloc, valid, func, Some(Pos(at)), budget, args, replies)
+}
+
+// The run of a function that has code, with what is seen at a watched position, unless its arguments don't fit or the memory is too large.
+fn run_code(
+    alloc: Global,
+    valid: &ValidModule,
+    func: u32,
+    watch: Option<Pos>,
+    budget: u32,
+    args: &[i128],
+    replies: Items<HostReply>,
+) -> Result<Reply, NoMemory>
+    requires code { why_no_code valid.now func ≡ None }
+    ensures { IfOk result (λ reply. (i : ℕ) → Watches valid.now func watch i → AnswersUnless (why_no_run valid.now func args.now)
+        (IsRunAs valid.now func i budget args.now replies) (reply_answer reply)) }
+{
+    let Some(kind) = valid.module().func_type(func) else {
+        unreachable!()
+    };
+    let Some(values) = values_of(alloc, kind.params.as_slice(), args)? else {
+        return refuse(alloc, Refusal::Query(QueryRefusal::BadArguments));
+    };
+    match run(alloc, valid, func, watch, &values, replies, budget) {
+        Ok(end) => write_run(alloc, end),
+        Err(RunRefusal::TooManyPages { min }) => {
+            refuse(alloc, Refusal::Query(QueryRefusal::TooManyPages { min }))
+        }
+        Err(RunRefusal::Memory) => Err(NoMemory),
+    }
+}
+
+// How a run ended, with its events, on out.
+fn write_run(alloc: Global, end: RunEnd) -> Result<Reply, NoMemory>
+    ensures { IfOk result (λ reply. reply_answer reply ≡ run_answer (ends_as end)) }
+{
+    let status = Status::of_run(&end);
+    let outcome = match end {
+        RunEnd::ElemOut { k } => Outcome::ElemOut { k },
+        RunEnd::DataOut { k } => Outcome::DataOut { k },
+        RunEnd::InStart { ended } => Outcome::Ran {
+            ended,
+            trace: Vec::new(alloc),
+            in_start: true,
+        },
+        RunEnd::Ran { ended, trace } => Outcome::Ran {
+            ended,
+            trace,
+            in_start: false,
+        },
+    };
+    Ok(Reply {
+        status,
+        out: run_text(alloc, &outcome)?,
         err: Vec::new(alloc),
     })
 }

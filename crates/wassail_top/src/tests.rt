@@ -265,7 +265,12 @@ fn refuses_words_and_reads_nothing(rt: HostRuntime) -> Result<(), Fail> {
         &["check", "0"],
         &["rewrite", "0"],
         &["run", "0"],
+        &["run", "0", "5", "x"],
+        &["run", "0", "5", "/", "/"],
+        &["run", "0", "5", "/", "g0=1,2"],
+        &["trace", "0", "0"],
         &["trace", "0", "0", "4294967296"],
+        &["trace", "0", "0", "5", "18446744073709551616"],
         &["Rewrite"],
         &[""],
         &["slice", "0", "x", "s"],
@@ -424,19 +429,19 @@ fn refuses_one_block_too_deep(rt: HostRuntime) -> Result<(), Fail> {
     Ok(())
 }
 
+// `() -> i32`: `i32.const 1; return; i32.const 2`.
+const RETURNING: &[u8] =
+    b"\0asm\x01\0\0\0\x01\x05\x01\x60\x00\x01\x7F\x03\x02\x01\x00\x0A\x09\x01\x07\x00\x41\x01\x0F\x41\x02\x0B";
+
 // A function that calls itself in one arm of an if, one with an instruction after a return, and an imported one.
 #[test]
 fn lists_functions(rt: HostRuntime) -> Result<(), Fail> {
-    let recursive =
-        b"\0asm\x01\0\0\0\x01\x06\x01\x60\x01\x7F\x01\x7F\x03\x02\x01\x00\x0A\x16\x01\x14\x00\x20\x00\x04\x7F\x20\x00\x41\x01\x6B\x10\x00\x05\x41\x00\x0B\x41\x01\x6A\x0B";
     let text =
         "0 local.get 0\n1 if i32 <- 0\n2   local.get 0\n3   i32.const 1\n4   i32.sub <- 2 3\n5   call 0 <- 4\n. else <- 5\n6   i32.const 0\n. end <- 6\n7 i32.const 1\n8 i32.add <- j1 7\n. end <- 8\n";
-    let got = end(&rt, &["list", "0"], recursive, NEVER, NEVER)?;
+    let got = end(&rt, &["list", "0"], RECURSIVE, NEVER, NEVER)?;
     assert_eq!(rt; got, expected(&rt, 0, 0, text.as_bytes(), "")?);
-    let returning =
-        b"\0asm\x01\0\0\0\x01\x05\x01\x60\x00\x01\x7F\x03\x02\x01\x00\x0A\x09\x01\x07\x00\x41\x01\x0F\x41\x02\x0B";
     let text = "0 i32.const 1\n1 return <- 0\n2 i32.const 2 dead\n. end\n";
-    let got = end(&rt, &["list", "0"], returning, NEVER, NEVER)?;
+    let got = end(&rt, &["list", "0"], RETURNING, NEVER, NEVER)?;
     assert_eq!(rt; got, expected(&rt, 0, 0, text.as_bytes(), "")?);
     let imported = b"\0asm\x01\0\0\0\x01\x04\x01\x60\x00\x00\x02\x07\x01\x01\x65\x01\x68\x00\x00";
     let got = end(&rt, &["list", "0"], imported, NEVER, NEVER)?;
@@ -455,5 +460,166 @@ fn lists_functions(rt: HostRuntime) -> Result<(), Fail> {
         got,
         expected(&rt, 6, 0, b"", "wassail: query refused: no function 1\n")?
     );
+    Ok(())
+}
+
+// What a call gives whose words stand in one text, with spaces between.
+fn end_of(rt: &HostRuntime, words: &str, bytes: &[u8]) -> Result<Ending, Fail> {
+    let mut list = Vec::new(rt.alloc());
+    for word in words.split(' ') {
+        list.push(word)?;
+    }
+    end(rt, &list, bytes, NEVER, NEVER)
+}
+
+// A status, and the lines on out, or on err where the query is refused.
+fn told(rt: &HostRuntime, status: u8, lines: &str) -> Result<Ending, Fail> {
+    if status == 6 {
+        expected(rt, 6, 0, b"", lines)
+    } else {
+        expected(rt, status, 0, lines.as_bytes(), "")
+    }
+}
+
+// Two functions `(i32 i32) -> i32`: `local.get 0; local.get 1; i32.div_s`, and the same with `i32.rem_s`.
+const DIVIDE: &[u8] =
+    b"\0asm\x01\0\0\0\x01\x07\x01\x60\x02\x7F\x7F\x01\x7F\x03\x03\x02\x00\x00\x0A\x11\x02\x07\x00\x20\x00\x20\x01\x6D\x0B\x07\x00\x20\x00\x20\x01\x6F\x0B";
+
+// One page, and three functions `(i32) -> i32`: `local.get 0; i32.load8_u 0 0`, `local.get 0; i32.load16_u 0 0` and `local.get 0; i32.load8_u 0 1`.
+const BOUNDS: &[u8] =
+    b"\0asm\x01\0\0\0\x01\x06\x01\x60\x01\x7F\x01\x7F\x03\x04\x03\x00\x00\x00\x05\x03\x01\x00\x01\x0A\x19\x03\x07\x00\x20\x00\x2D\x00\x00\x0B\x07\x00\x20\x00\x2F\x00\x00\x0B\x07\x00\x20\x00\x2D\x00\x01\x0B";
+
+// `(i32) -> i32`: `local.get 0; i32.extend8_s`, and `(i64) -> i64`: `local.get 0; i64.extend32_s`.
+const EXTEND: &[u8] =
+    b"\0asm\x01\0\0\0\x01\x0B\x02\x60\x01\x7F\x01\x7F\x60\x01\x7E\x01\x7E\x03\x03\x02\x00\x01\x0A\x0D\x02\x05\x00\x20\x00\xC0\x0B\x05\x00\x20\x00\xC4\x0B";
+
+// One page. `(i32 i32 i32) -> i32`: `i32.const 0; i32.const 258; i32.store 2 0; local.get 0; local.get 1; local.get 2; memory.copy; local.get 0; i32.load 2 0`.
+// `(i32 i32) -> ()`: `local.get 0; i32.const 263; local.get 1; memory.fill`.
+// `() -> i32`: `i32.const 0; i32.const 263; i32.const 4; memory.fill; i32.const 0; i32.load8_u 0 0`.
+const COPY: &[u8] =
+    b"\0asm\x01\0\0\0\x01\x11\x03\x60\x03\x7F\x7F\x7F\x01\x7F\x60\x02\x7F\x7F\x00\x60\x00\x01\x7F\x03\x04\x03\x00\x01\x02\x05\x03\x01\x00\x01\x0A\x3A\x03\x19\x00\x41\x00\x41\x82\x02\x36\x02\x00\x20\x00\x20\x01\x20\x02\xFC\x0A\x00\x00\x20\x00\x28\x02\x00\x0B\x0C\x00\x20\x00\x41\x87\x02\x20\x01\xFC\x0B\x00\x0B\x11\x00\x41\x00\x41\x87\x02\x41\x04\xFC\x0B\x00\x41\x00\x2D\x00\x00\x0B";
+
+#[test]
+fn runs_arithmetic_and_memory(rt: HostRuntime) -> Result<(), Fail> {
+    let cases: [(&[u8], &str, u8, &str); 17] = [
+        (DIVIDE, "run 0 0 -2147483648 -1", 7, "trapped integer overflow\nturns 0\n"),
+        (DIVIDE, "run 0 0 7 0", 7, "trapped divide by zero\nturns 0\n"),
+        (DIVIDE, "run 0 0 -7 2", 0, "returned 4294967293\nturns 0\n"),
+        (DIVIDE, "run 1 0 -2147483648 -1", 0, "returned 0\nturns 0\n"),
+        (BOUNDS, "run 0 0 65535", 0, "returned 0\nturns 0\n"),
+        (BOUNDS, "run 1 0 65535", 7, "trapped memory out of bounds\nturns 0\n"),
+        (BOUNDS, "run 2 0 4294967295", 7, "trapped memory out of bounds\nturns 0\n"),
+        (EXTEND, "run 0 0 128", 0, "returned 4294967168\nturns 0\n"),
+        (EXTEND, "run 0 0 127", 0, "returned 127\nturns 0\n"),
+        (EXTEND, "run 1 0 2147483648", 0, "returned 18446744071562067968\nturns 0\n"),
+        (COPY, "run 0 0 1 0 4", 0, "returned 258\nturns 0\n"),
+        (COPY, "run 1 0 65536 0", 0, "returned\nturns 0\n"),
+        (COPY, "run 1 0 65535 1", 0, "returned\nturns 0\n"),
+        (COPY, "run 1 0 65536 1", 7, "trapped memory out of bounds\nturns 0\n"),
+        (COPY, "run 2 0", 0, "returned 7\nturns 0\n"),
+        (COPY, "run 2 0 1", 6, "wassail: query refused: arguments do not fit\n"),
+        (DIVIDE, "run 0 0 4294967296 1", 6, "wassail: query refused: arguments do not fit\n"),
+    ];
+    for (bytes, words, status, lines) in cases {
+        let got = end_of(&rt, words, bytes)?;
+        assert_eq!(rt; got, told(&rt, status, lines)?);
+    }
+    Ok(())
+}
+
+// `(i32) -> i32`: `local.get 0; if i32; local.get 0; i32.const 1; i32.sub; call 0; else; i32.const 0; end; i32.const 1; i32.add`.
+const RECURSIVE: &[u8] =
+    b"\0asm\x01\0\0\0\x01\x06\x01\x60\x01\x7F\x01\x7F\x03\x02\x01\x00\x0A\x16\x01\x14\x00\x20\x00\x04\x7F\x20\x00\x41\x01\x6B\x10\x00\x05\x41\x00\x0B\x41\x01\x6A\x0B";
+
+// `() -> ()`: `call 0`.
+const DEEP: &[u8] =
+    b"\0asm\x01\0\0\0\x01\x04\x01\x60\x00\x00\x03\x02\x01\x00\x0A\x06\x01\x04\x00\x10\x00\x0B";
+
+// Functions `() -> i32` with `i32.const 42`, and `(i32) -> i32` with `local.get 0; call_indirect 0`; a table of 3, and both functions in it from 0 on.
+const INDIRECT: &[u8] =
+    b"\0asm\x01\0\0\0\x01\x0A\x02\x60\x00\x01\x7F\x60\x01\x7F\x01\x7F\x03\x03\x02\x00\x01\x04\x04\x01\x70\x00\x03\x09\x08\x01\x00\x41\x00\x0B\x02\x00\x01\x0A\x0E\x02\x04\x00\x41\x2A\x0B\x07\x00\x20\x00\x11\x00\x00\x0B";
+
+// The same with both functions in the table from 2 on.
+const TOO_FAR: &[u8] =
+    b"\0asm\x01\0\0\0\x01\x0A\x02\x60\x00\x01\x7F\x60\x01\x7F\x01\x7F\x03\x03\x02\x00\x01\x04\x04\x01\x70\x00\x03\x09\x08\x01\x00\x41\x02\x0B\x02\x00\x01\x0A\x0E\x02\x04\x00\x41\x2A\x0B\x07\x00\x20\x00\x11\x00\x00\x0B";
+
+// Two functions `() -> ()`: `unreachable`, which is the start function, and one that does nothing.
+const TRAPPING_START: &[u8] =
+    b"\0asm\x01\0\0\0\x01\x04\x01\x60\x00\x00\x03\x03\x02\x00\x00\x08\x01\x00\x0A\x08\x02\x03\x00\x00\x0B\x02\x00\x0B";
+
+// The same with `loop; br 0; end` as the start function.
+const ENDLESS_START: &[u8] =
+    b"\0asm\x01\0\0\0\x01\x04\x01\x60\x00\x00\x03\x03\x02\x00\x00\x08\x01\x00\x0A\x0C\x02\x07\x00\x03\x40\x0C\x00\x0B\x0B\x02\x00\x0B";
+
+#[test]
+fn runs_calls(rt: HostRuntime) -> Result<(), Fail> {
+    let seen = "take 3 1\nleave 4\nreturned 4\nturns 3\n";
+    let cases: [(&[u8], &str, u8, &str); 16] = [
+        (RECURSIVE, "trace 0 8 10 3", 0, seen),
+        (RECURSIVE, "run 0 2 3", 8, "out of turns\n"),
+        (RECURSIVE, "run 0 3 3", 0, "returned 4\nturns 3\n"),
+        (RECURSIVE, "trace 0 9 10 3", 6, "wassail: query refused: no instruction 9, function has 9\n"),
+        (DEEP, "run 0 100000", 8, "out of turns\n"),
+        (INDIRECT, "run 1 5 0", 0, "returned 42\nturns 1\n"),
+        (INDIRECT, "run 1 5 1", 7, "trapped wrong function type\nturns 0\n"),
+        (INDIRECT, "run 1 5 2", 7, "trapped empty table entry\nturns 0\n"),
+        (INDIRECT, "run 1 5 3", 7, "trapped no table entry\nturns 0\n"),
+        (INDIRECT, "run 1 0 0", 8, "out of turns\n"),
+        (TOO_FAR, "run 1 5 0", 7, "element segment 0 does not fit\n"),
+        (TRAPPING_START, "run 1 5", 7, "start trapped unreachable\nturns 0\n"),
+        (ENDLESS_START, "run 1 5", 8, "out of turns\n"),
+        (RETURNING, "trace 0 2 5", 6, "wassail: query refused: instruction 2 is dead\n"),
+        (RETURNING, "run 0 0 /", 0, "returned 1\nturns 0\n"),
+        (RETURNING, "run 1 0", 6, "wassail: query refused: no function 1\n"),
+    ];
+    for (bytes, words, status, lines) in cases {
+        let got = end_of(&rt, words, bytes)?;
+        assert_eq!(rt; got, told(&rt, status, lines)?);
+    }
+    Ok(())
+}
+
+// The import `env` `h`, `() -> i32`; one page, and `() -> i32`: `i32.const 0; i32.const 5; i32.store 2 0; call 0`.
+const HOST: &[u8] =
+    b"\0asm\x01\0\0\0\x01\x05\x01\x60\x00\x01\x7F\x02\x09\x01\x03\x65\x6E\x76\x01\x68\x00\x00\x03\x02\x01\x00\x05\x03\x01\x00\x01\x0A\x0D\x01\x0B\x00\x41\x00\x41\x05\x36\x02\x00\x10\x00\x0B";
+
+// A module as a C compiler lays one out. Types `(i32 i32) -> i32` and `(i32) -> i32`; the import `env` `write`, of the first; one page, exported as `memory`;
+// a mutable i32 of 32768; function 2 exported as `print`; `hi` and a zero byte at 1024. Function 1 counts the bytes before a zero; function 2 writes them.
+const PRINT: &[u8] =
+    b"\0asm\x01\0\0\0\x01\x0C\x02\x60\x02\x7F\x7F\x01\x7F\x60\x01\x7F\x01\x7F\x02\x0D\x01\x03\x65\x6E\x76\x05\x77\x72\x69\x74\x65\x00\x00\x03\x03\x02\x01\x01\x05\x03\x01\x00\x01\x06\x08\x01\x7F\x01\x41\x80\x80\x02\x0B\x07\x12\x02\x06\x6D\x65\x6D\x6F\x72\x79\x02\x00\x05\x70\x72\x69\x6E\x74\x00\x02\x0A\x4F\x02\x24\x01\x01\x7F\x20\x00\x21\x01\x02\x40\x03\x40\x20\x01\x2D\x00\x00\x45\x0D\x01\x20\x01\x41\x01\x6A\x21\x01\x0C\x00\x0B\x0B\x20\x01\x20\x00\x6B\x0B\x28\x01\x02\x7F\x23\x00\x41\x10\x6B\x22\x01\x24\x00\x20\x01\x20\x00\x10\x01\x22\x02\x36\x02\x0C\x20\x00\x20\x02\x10\x00\x1A\x20\x01\x41\x10\x6A\x24\x00\x20\x02\x0B\x0B\x0A\x01\x00\x41\x80\x08\x0B\x03\x68\x69\x00";
+
+// 1 to 3 pages, `(i32) -> i32`: `local.get 0; memory.grow`.
+const GROW: &[u8] =
+    b"\0asm\x01\0\0\0\x01\x06\x01\x60\x01\x7F\x01\x7F\x03\x02\x01\x00\x05\x04\x01\x01\x01\x03\x0A\x08\x01\x06\x00\x20\x00\x40\x00\x0B";
+
+// The same with 1025 pages and no maximum.
+const LARGE: &[u8] =
+    b"\0asm\x01\0\0\0\x01\x06\x01\x60\x01\x7F\x01\x7F\x03\x02\x01\x00\x05\x04\x01\x00\x81\x08\x0A\x08\x01\x06\x00\x20\x00\x40\x00\x0B";
+
+// The import `env` `g`, an immutable i64, and `() -> i64`: `global.get 0`.
+const ZERO: &[u8] =
+    b"\0asm\x01\0\0\0\x01\x05\x01\x60\x00\x01\x7E\x02\x0A\x01\x03\x65\x6E\x76\x01\x67\x03\x7E\x00\x03\x02\x01\x00\x0A\x06\x01\x04\x00\x23\x00\x0B";
+
+#[test]
+fn runs_with_a_host(rt: HostRuntime) -> Result<(), Fail> {
+    let bytes = "take 1024\nleave 104\ntake 1025\nleave 105\ntake 1026\nleave 0\nreturned 2\nturns 2\n";
+    let cases: [(&[u8], &str, u8, &str); 12] = [
+        (HOST, "run 1 1 / 9", 0, "returned 9\nturns 1\n"),
+        (HOST, "run 1 1", 7, "trapped host reply missing\nturns 1\n"),
+        (HOST, "run 1 1 / -", 7, "trapped host reply unfit\nturns 1\n"),
+        (HOST, "run 0 1", 6, "wassail: query refused: function 0 is imported\n"),
+        (PRINT, "run 2 100 1024 / 2", 0, "returned 2\nturns 4\n"),
+        (PRINT, "run 2 100 1024 / 2,m1024=00", 0, "returned 2\nturns 4\n"),
+        (PRINT, "trace 1 5 100 1024", 0, bytes),
+        (GROW, "run 0 0 2", 0, "returned 1\nturns 0\n"),
+        (GROW, "run 0 0 3", 0, "returned 4294967295\nturns 0\n"),
+        (LARGE, "run 0 0 2", 6, "wassail: query refused: memory of 1025 pages is over 1024\n"),
+        (ZERO, "run 0 0", 0, "returned 0\nturns 0\n"),
+        (ZERO, "run 0 0 1", 6, "wassail: query refused: arguments do not fit\n"),
+    ];
+    for (bytes, words, status, lines) in cases {
+        let got = end_of(&rt, words, bytes)?;
+        assert_eq!(rt; got, told(&rt, status, lines)?);
+    }
     Ok(())
 }

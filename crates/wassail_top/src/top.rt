@@ -10,7 +10,7 @@ ghost use Rattle.wasm_types.specs.Modules.{Spells};
 ghost use Rattle.wasm_types.specs.Subset.{InSubset};
 ghost use Rattle.wasm_types.specs.Validity.{IsValid};
 ghost use Rattle.wasm_types.specs.WellFormed.{IsU8};
-ghost use Rattle.wassail_top.specs.Answers.{Answers, HasAnswer, IsTaken, IsText, most_bytes};
+ghost use Rattle.wassail_top.specs.Answers.{Answers, HasAnswer, HasStatus, IsTaken, IsText, most_bytes};
 ghost use Rattle.wassail_top.specs.Headline.{SliceHolds};
 ghost use Rattle.wassail_top.specs.Orders.{Order};
 ghost use Rattle.wassail_top.specs.Orders.Order.{slice};
@@ -64,11 +64,11 @@ pub fn wassail<S: Source, O: Sink, E: Sink>(
         (S.left source.old) (S.left source.new) (O.held out.old) (O.held out.new) (E.held err.old) (E.held err.new) result }
 
     // So the words of a command, a valid module of the subset that isn't too long and about which the query isn't refused, and no fault give status 0,
-    // unless an allocation is refused.
+    // or for `run` and `trace` that of how the run ends, unless an allocation is refused.
     ensures succeeds { (order : Order) (bytes : List ℕ) (m : Module) → order_of (map string_bytes words.now) ≡ Some order
         → S.left source.old ≡ Some bytes → length bytes ≤ most_bytes → Spells bytes m → IsValid m → InSubset m → IsTaken order m
         → ¬ Rose (S.faults source.old) (S.faults source.new) → ¬ Rose (O.faults out.old) (O.faults out.new)
-        → ¬ Rose (E.faults err.old) (E.faults err.new) → (result ≡ 0) ⊎ (result ≡ 5) }
+        → ¬ Rose (E.faults err.old) (E.faults err.new) → HasStatus order m result ⊎ (result ≡ 5) }
 
     // Status 0 of `slice`: a valid module that decodes as itself, whose slice follows the original.
     ensures slices { result ≡ 0 → (func at : ℕ) (name : List ℕ) → order_of (map string_bytes words.now) ≡ Some (slice func at name)

@@ -2,16 +2,20 @@
 
 ghost use Rattle.std.specs.Prelude.{◌≡◌, map, IfOk};
 ghost use Rattle.std.specs.String.{string_bytes};
+ghost use Rattle.run_words.specs.Words.{reply_of, value_of};
 ghost use Rattle.wassail_top.specs.Orders.{order_read, HasShortName};
 ghost use Rattle.wassail_top.specs.Orders.Order.{list, slice};
-ghost use Rattle.wassail_top.specs.Parses.{Parses};
-ghost use Rattle.wassail_top.specs.Words.{alone, number_of, one, order_of, two_and_name};
+ghost use Rattle.wassail_top.specs.Parses.{Parses, ReadsArgs, ReadsGiven, ReadsReplies};
+ghost use Rattle.wassail_top.specs.Words.{alone, before_slash, behind_slash, each, given_of, one, order_of, running, tracing, two_and_name};
 
+use run_words::{ReplyEnd, parse_number, parse_reply, parse_value};
+use sqlite_items::Items;
+use std::alloc::Global;
 use thiserror::Error;
-use wasm_types::MOST_NAME_BYTES;
+use wasm_types::{MOST_NAME_BYTES, Reply};
 
 /// What the program is asked to do.
-#[derive(Debug, Drop, PartialEq, Eq)]
+#[derive(Drop)]
 pub enum Command {
     /// Tell whether the module is valid, has no float and keeps the limits.
     Check,
@@ -21,6 +25,21 @@ pub enum Command {
     List { func: u32 },
     /// Write the module with a slice of function `func` at position `at` appended, exported as `name`.
     Slice { func: u32, at: u32, name: String },
+    /// Run function `func` on these arguments within a budget of turns, where the host gives these replies.
+    Run {
+        func: u32,
+        budget: u32,
+        args: Vec<i128>,
+        replies: Items<Reply>,
+    },
+    /// The same, and print what is seen at position `at`.
+    Trace {
+        func: u32,
+        at: u32,
+        budget: u32,
+        args: Vec<i128>,
+        replies: Items<Reply>,
+    },
 }
 
 /// Why words aren't read as a command.
@@ -34,8 +53,15 @@ pub enum WordsEnd {
     Memory,
 }
 
+/// The arguments of a run, and the replies of its host.
+#[derive(Drop)]
+struct Given {
+    args: Vec<i128>,
+    replies: Items<Reply>,
+}
+
 /// The command that the words are. `Refused` comes exactly where they are no command (docs/COMMANDS.md).
-pub fn parse_words(words: &[String]) -> Result<Command, WordsEnd>
+pub fn parse_words(alloc: Global, words: &[String]) -> Result<Command, WordsEnd>
     ensures parses { Parses (order_of (map string_bytes words.now)) result }
     ensures short { IfOk result (λ command. HasShortName (order_read command)) }
 {
@@ -47,6 +73,8 @@ pub fn parse_words(words: &[String]) -> Result<Command, WordsEnd>
         "rewrite" => parse_alone(Command::Rewrite, rest),
         "list" => parse_list(rest),
         "slice" => parse_slice(rest),
+        "run" => parse_run(alloc, rest),
+        "trace" => parse_trace(alloc, rest),
         _ => Err(WordsEnd::Refused),
     }
 }
@@ -72,7 +100,7 @@ fn parse_list(rest: &[String]) -> Result<Command, WordsEnd>
     let [func] = rest else {
         return Err(WordsEnd::Refused);
     };
-    let func = number_word(func).ok_or(WordsEnd::Refused)?;
+    let func = parse_number(func.as_bytes()).ok_or(WordsEnd::Refused)?;
     Ok(Command::List { func })
 }
 
@@ -87,7 +115,8 @@ fn parse_slice(rest: &[String]) -> Result<Command, WordsEnd>
     if name.len() > MOST_NAME_BYTES {
         return Err(WordsEnd::Refused);
     }
-    let (Some(func), Some(at)) = (number_word(func), number_word(at)) else {
+    let (Some(func), Some(at)) = (parse_number(func.as_bytes()), parse_number(at.as_bytes()))
+    else {
         return Err(WordsEnd::Refused);
     };
     let Ok(name) = name.clone() else {
@@ -96,25 +125,97 @@ fn parse_slice(rest: &[String]) -> Result<Command, WordsEnd>
     Ok(Command::Slice { func, at, name })
 }
 
-// The number that a word of 1 to 10 digits is, where it is below 2^32.
-#[tactic(auto, unfolding(crate::specs::Words::number_of))]
-fn number_word(word: &String) -> Option<u32>
-    ensures { result ≡ number_of (string_bytes word.now) }
+// A function and a budget, with arguments and replies.
+fn parse_run(alloc: Global, rest: &[String]) -> Result<Command, WordsEnd>
+    ensures parses { Parses (running (map string_bytes rest.now)) result }
+    ensures short { IfOk result (λ command. HasShortName (order_read command)) }
 {
-    let digits = word.as_bytes();
-    if digits.is_empty() || digits.len() > 10 {
-        return None;
-    }
-    let mut value: u32 = 0;
-    for digit in digits {
-        if !digit.is_ascii_digit() {
-            return None;
+    let [func, budget, words @ ..] = rest else {
+        return Err(WordsEnd::Refused);
+    };
+    let func = parse_number(func.as_bytes()).ok_or(WordsEnd::Refused)?;
+    let budget = parse_number(budget.as_bytes()).ok_or(WordsEnd::Refused)?;
+    let Given { args, replies } = parse_given(alloc, words)?;
+    Ok(Command::Run {
+        func,
+        budget,
+        args,
+        replies,
+    })
+}
+
+// A function, a position in it and a budget, with arguments and replies.
+fn parse_trace(alloc: Global, rest: &[String]) -> Result<Command, WordsEnd>
+    ensures parses { Parses (tracing (map string_bytes rest.now)) result }
+    ensures short { IfOk result (λ command. HasShortName (order_read command)) }
+{
+    let [func, at, budget, words @ ..] = rest else {
+        return Err(WordsEnd::Refused);
+    };
+    let func = parse_number(func.as_bytes()).ok_or(WordsEnd::Refused)?;
+    let at = parse_number(at.as_bytes()).ok_or(WordsEnd::Refused)?;
+    let budget = parse_number(budget.as_bytes()).ok_or(WordsEnd::Refused)?;
+    let Given { args, replies } = parse_given(alloc, words)?;
+    Ok(Command::Trace {
+        func,
+        at,
+        budget,
+        args,
+        replies,
+    })
+}
+
+// Arguments, and replies after the first `/`.
+fn parse_given(alloc: Global, words: &[String]) -> Result<Given, WordsEnd>
+    ensures { ReadsGiven (given_of (map string_bytes words.now)) result }
+{
+    let (args, replies) = cut_at_slash(words);
+    let args = parse_args(alloc, args)?;
+    let replies = parse_replies(alloc, replies)?;
+    Ok(Given { args, replies })
+}
+
+// The words before the first `/`, and those behind it: none where there is no `/`.
+fn cut_at_slash(words: &[String]) -> (&[String], &[String])
+    ensures args { map string_bytes result.0.now ≡ before_slash (map string_bytes words.now) }
+    ensures replies { map string_bytes result.1.now ≡ behind_slash (map string_bytes words.now) }
+{
+    for k in 0..words.len() {
+        if words[k].as_str() == "/" {
+            return (&words[..k], &words[k + 1..]);
         }
-        let next = 10 * u64::from(value) + u64::from(*digit - b'0');
-        if next > 4294967295 {
-            return None;
-        }
-        value = next as u32;
     }
-    Some(value)
+    (words, &[])
+}
+
+// The arguments that the words are.
+fn parse_args(alloc: Global, words: &[String]) -> Result<Vec<i128>, WordsEnd>
+    ensures { ReadsArgs (each value_of (map string_bytes words.now)) result }
+{
+    let mut args = Vec::new(alloc);
+    for word in words {
+        let arg = parse_value(word.as_bytes()).ok_or(WordsEnd::Refused)?;
+        if args.push(arg).is_err() {
+            return Err(WordsEnd::Memory);
+        }
+    }
+    Ok(args)
+}
+
+// The replies that the words are.
+fn parse_replies(alloc: Global, words: &[String]) -> Result<Items<Reply>, WordsEnd>
+    ensures { ReadsReplies (each reply_of (map string_bytes words.now)) result }
+{
+    let mut replies = Items::new(alloc);
+    for word in words {
+        let reply = match parse_reply(alloc, word.as_bytes()) {
+            Ok(reply) => reply,
+            Err(ReplyEnd::Refused) => return Err(WordsEnd::Refused),
+            Err(ReplyEnd::Memory) => return Err(WordsEnd::Memory),
+        };
+        if replies.push(reply).is_err() {
+            return Err(WordsEnd::Memory);
+        }
+    }
+    Ok(replies)
 }

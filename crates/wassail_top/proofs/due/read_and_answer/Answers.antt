@@ -12,6 +12,6 @@ returns-in-Ok-clause-due g c =
       c.in-Ok.bytes.items,
       c.in-Ok.ensures.taken.0,
       c.in-Ok.ensures.taken.1,
-      subst (λ bytes. AnswersBytes (order_read c.args.command.now) bytes (reply_answer reply)) c.deref.ensures.value answer,
+      subst (λ bytes. AnswersBytes (order_read c.args.command) bytes (reply_answer reply)) c.deref.ensures.value answer,
     )))
     c.answer_bytes.ensures
