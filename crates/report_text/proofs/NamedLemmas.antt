@@ -7,6 +7,7 @@ use Rattle.std.proofs.lemmas.List.Elements.{All-get_or}
 use Rattle.wasm_types.proofs.CodeLemmas.{length-flatten}
 use Rattle.std.proofs.lemmas.List.{reverse-append, map-append}
 use Rattle.wasm_types.specs.declared.module.ValType.{ValType}
+use Rattle.wasm_types.specs.declared.module.FuncType.{FuncType}
 use Rattle.wasm_types.specs.declared.module.Body.{Body}
 use Rattle.wasm_types.specs.declared.module.Module.{Module}
 use Rattle.wasm_types.specs.declared.place.Node.{Node}
@@ -17,11 +18,12 @@ use Rattle.wasm_types.specs.Actions.{Callees, callees}
 use Rattle.wasm_types.specs.Nodes.{Join}
 use Rattle.wasm_types.specs.Sites.{Site, Sites, all_operands}
 use Rattle.wasm_types.specs.Funcs.{Func, func_of, func_from, text, unwatched}
-use Rattle.wasm_types.specs.Spaces.{body_of, func_types, import_count, run_types}
+use Rattle.wasm_types.specs.Spaces.{type_of_func, body_of, func_types, import_count, run_types}
 use Rattle.wasm_types.specs.Sizes.{positions}
 use Rattle.wasm_types.specs.Subset.{IsSealed}
 use Rattle.wasm_types.specs.Marked.{marked}
 use Rattle.wasm_types.specs.Takers.{takers_of}
+use Rattle.stack_names.specs.declared.place.Place.{Place}
 use Rattle.stack_names.specs.Listed.{Listed}
 use Rattle.stack_names.specs.Named.{AreNames, Named, is_listed, is_live_in, listed, listed_all, operands_in, operands_of, place_of, placed, sites_in}
 use Rattle.report_text.specs.InstructionTexts.{block_text, instruction_text}

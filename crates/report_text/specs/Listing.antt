@@ -1,5 +1,5 @@
 -- The listing of a function (docs/COMMANDS.md, "What a listing prints").
-use Rattle.std.specs.Prelude.{ℕ, zero, suc, ◌+◌, ◌||◌, Bool, false, if◌then◌else◌, List, [], ◌∷◌, ◌++◌, reverse, take, Option, Some, None, codes, decimal, slice_get}
+use Rattle.std.specs.Prelude.{◌≡◌, ℕ, zero, suc, ◌+◌, ◌||◌, Bool, true, false, if◌then◌else◌, List, [], ◌∷◌, ◌++◌, length, map, reverse, take, Option, Some, None, codes, decimal, slice_get}
 use Rattle.wasm_types.specs.declared.module.Module.{Module}
 use Rattle.wasm_types.specs.declared.place.Node.{Node}
 use Rattle.wasm_types.specs.declared.place.Node.TheVariants as node
@@ -10,7 +10,7 @@ use Rattle.wasm_types.specs.Code.{Code, done, one, block, repeat, branch, count,
 use Rattle.wasm_types.specs.Marked.{Marked}
 use Rattle.wasm_types.specs.Actions.{Callees, callees}
 use Rattle.wasm_types.specs.Nodes.{At, Join}
-use Rattle.wasm_types.specs.Sites.{Site, all_operands, body_sites}
+use Rattle.wasm_types.specs.Sites.{Site, Sites, all_operands, body_sites}
 use Rattle.wasm_types.specs.Takers.{node_eq, takers_of}
 use Rattle.wasm_types.specs.Funcs.{Func, func_of, text}
 use Rattle.report_text.specs.InstructionTexts.{block_text, instruction_text}
