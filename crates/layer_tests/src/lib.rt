@@ -5,4 +5,6 @@
 #[cfg(test)]
 mod modules;
 #[cfg(test)]
+mod reaching;
+#[cfg(test)]
 mod streams;
