@@ -154,3 +154,58 @@ def largest_function(bytes_):
                 found = imported + max(range(count), key=sizes.__getitem__)
         at = end
     return found
+
+
+def loop_text(laps, lap, before="", locals_of="(local $i i32) (local $x i32) (local $y i32)"):
+    """The text of a module whose function `run` makes so many laps, and answers its local x."""
+    return f"""(module
+  (type $two (func (param i32 i32) (result i32)))
+  (memory 1)
+  {before}
+  (func (export "run") (result i32) {locals_of}
+    (local.set $i (i32.const {laps}))
+    (loop $again
+      {lap}
+      (br_if $again (local.tee $i (i32.sub (local.get $i) (i32.const 1)))))
+    (local.get $x)))
+"""
+
+
+STEP = "(local.set $x (i32.add (i32.mul (local.get $x) (i32.const 1664525)) (i32.const 1013904223)))"
+
+
+def arithmetic_text(laps, steps=1):
+    """Laps of arithmetic on locals, each with so many steps."""
+    return loop_text(laps, STEP * steps + "(local.set $y (i32.xor (local.get $y) (i32.shr_u (local.get $x) (i32.const 7))))")
+
+
+def memory_text(laps):
+    """Laps of a load and a store."""
+    at = "(local.set $y (i32.and (i32.mul (local.get $i) (i32.const 4)) (i32.const 65532)))"
+    return loop_text(laps, at + "(i32.store (local.get $y) (local.tee $x (i32.add (i32.load (local.get $y)) (local.get $i))))")
+
+
+CALLED = """(func $plus (type $two) (i32.add (local.get 0) (i32.mul (local.get 1) (i32.const 3))))
+  (func $minus (type $two) (i32.sub (local.get 0) (i32.mul (local.get 1) (i32.const 5))))
+  (table funcref (elem $plus $minus))"""
+
+
+def calls_text(laps):
+    """Laps of a call."""
+    return loop_text(laps, "(local.set $x (call $plus (local.get $x) (local.get $i)))", CALLED)
+
+
+def table_text(laps):
+    """Laps of a call through the table."""
+    index = "(i32.and (local.get $i) (i32.const 1))"
+    return loop_text(laps, f"(local.set $x (call_indirect (type $two) (local.get $x) (local.get $i) {index}))", CALLED)
+
+
+def deep_text(laps, depth):
+    """Laps of a call that calls itself down to a depth."""
+    down = """(func $down (param i32) (result i32)
+    (if (result i32) (local.get 0) (then (i32.add (call $down (i32.sub (local.get 0) (i32.const 1))) (i32.const 1))) (else (i32.const 0))))"""
+    return loop_text(laps, f"(local.set $x (i32.add (local.get $x) (call $down (i32.const {depth}))))", down)
+
+
+ENDLESS = "(module (func (export \"run\") call 0))"
