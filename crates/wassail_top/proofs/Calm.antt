@@ -1,5 +1,5 @@
 -- No answer has the status of a fault or of an allocation that is refused, and only refused words have that of refused words.
-use Rattle.std.proofs.Common.{◌≡◌, ◌≢◌, ◌⊎◌, ◌<◌, ℕ, ℤ, List, sym, ap, inl, inr, arith, Option, None, Some, Err, refl, subst}
+use Rattle.std.proofs.Common.{◌≡◌, ◌≢◌, ◌⊎◌, ◌<◌, ℕ, ℤ, List, sym, ap, inl, inr, arith, Option, None, Some, Err, subst}
 use Rattle.wasm_types.specs.declared.module.Module.{Module}
 use Rattle.wasm_types.specs.declared.run.Ended.{Ended}
 use Rattle.wasm_types.specs.declared.run.Ended.TheVariants as ended

@@ -13,14 +13,14 @@ use Rattle.wasm_types.specs.Spaces.{mems_of, type_of_func}
 use Rattle.wasm_types.specs.Subset.{IsSealed}
 use Rattle.wasm_meaning.specs.Fits.{HaveTypes}
 use Rattle.typed_runs.specs.Start.{least}
-use Rattle.module_run.specs.Runs.{most_run_pages, RunEnds, RunsTo}
+use Rattle.module_run.specs.Runs.{most_run_pages, RunsTo}
 use Rattle.module_run.specs.Values.{values_for}
 use Rattle.module_run.proofs.ListedValues.{values_typed}
 use Rattle.module_run.proofs.OneRun.{one_run}
 use Rattle.module_run.proofs.SomeRun.{some_run}
 use Rattle.wassail_top.specs.Queries.{or_else, params_in, params_of, why_no_run, why_no_values, why_not_called, why_too_large}
 use Rattle.wassail_top.specs.Refusals.{Answer, refused, why_no_code}
-use Rattle.wassail_top.specs.RunAnswers.{AnswersUnless, IsRunAs, IsStatusOfRun, run_answer, run_status}
+use Rattle.wassail_top.specs.RunAnswers.{AnswersUnless, IsRunAs, IsStatusOfRun, run_answer}
 use Rattle.wassail_top.proofs.NotRefuted.{NotRefuted}
 use Rattle.wassail_top.proofs.NoCode.{has_type}
 
@@ -71,7 +71,8 @@ some_run_here m f i budget args replies sealed code none never =
     let both = or_else_none (why_not_called m f args) (why_too_large (least (mems_of m))) none in
     let values = has_values (values_for (params_of m f) args) both.0 in
     let kind = has_type m f sealed.valid code in
-    some_run m sealed (not_too_large (least (mems_of m)) both.1) f kind.0 kind.1 values.0 (typed_values m f kind.0 args values.0 kind.1 values.1) i replies budget
+    some_run m sealed (not_too_large (least (mems_of m)) both.1) f kind.0 kind.1 values.0 (typed_values m f kind.0 args values.0 kind.1 values.1) i replies
+    budget
     (λ found. never (run_answer found.0, record { values = values.0; fit = values.1; ends = found.0; runs = found.1; is = refl }))
 
 of_why : (m : Module) (f i budget : ℕ) (args : List ℤ) (replies : List Reply) (why : Option QueryRefusal)
@@ -87,7 +88,8 @@ some_run_answer m f i budget args replies sealed =
     let both = or_else_none (why_no_code m f) (why_no_run m f args) none in some_run_here m f i budget args replies sealed both.0 both.1)
 
 pub some_trace_answer : (m : Module) (f i budget : ℕ) (args : List ℤ) (replies : List Reply) (unseen : Option QueryRefusal) → IsSealed m
-    → NotRefuted ((answer : Answer) × AnswersUnless (or_else (why_no_code m f) (or_else unseen (why_no_run m f args))) (IsRunAs m f i budget args replies) answer)
+    → NotRefuted ((answer : Answer)
+    × AnswersUnless (or_else (why_no_code m f) (or_else unseen (why_no_run m f args))) (IsRunAs m f i budget args replies) answer)
 some_trace_answer m f i budget args replies unseen sealed =
     of_why m f i budget args replies _ (λ none.
     let both = or_else_none (why_no_code m f) (or_else unseen (why_no_run m f args)) none in

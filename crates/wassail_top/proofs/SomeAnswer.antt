@@ -145,7 +145,8 @@ some_module order m proper formed seal never = some_admission m formed (λ r. el
 some_bytes : (order : Order) (bytes : List ℕ) → HasProperName order → All IsU8 bytes → length bytes ≤ most_bytes
     → NotRefuted ((answer : Answer) × AnswersBytes order bytes answer)
 some_bytes order bytes proper all short never = some_decoding bytes (λ r. elim r [
-  | inl m ↦ some_module order m.0 proper (spelled_well_formed bytes m.0 m.1.0 all) (sealed bytes m.0 m.1 short) (λ found. never (found.0, inr (m.0, m.1, found.1)))
+  | inl m ↦ some_module order m.0 proper (spelled_well_formed bytes m.0 m.1.0 all) (sealed bytes m.0 m.1 short)
+      (λ found. never (found.0, inr (m.0, m.1, found.1)))
   | inr bad ↦ never (refused (refusal.Module bad.1), inl (bad.0, bad.1, bad.2, bad.3, refl))
 ])
 

@@ -1,5 +1,5 @@
 -- The first cause to refuse a query is answered.
-use Rattle.std.proofs.Common.{◌≡◌, ◌≤◌, Option, Some, None, sym, subst}
+use Rattle.std.proofs.Common.{◌≡◌, Option, Some, None, sym, subst}
 use Rattle.report_text.specs.declared.refusal.Refusal.TheVariants as refusal
 use Rattle.report_text.specs.declared.refusal.QueryRefusal.{QueryRefusal}
 use Rattle.wassail_top.specs.Queries.{or_else}

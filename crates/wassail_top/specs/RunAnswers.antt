@@ -56,4 +56,5 @@ AnswersUnless (Some why) Holds answer = answer ≡ refused (refusal.Query why)
 -- within it
 abbrev pub IsStatusOfRun : (m : Module) (f i budget : ℕ) → List ℤ → List Reply → ℕ → Type 0
 IsStatusOfRun m f i budget args replies n =
-    (values : List Value) × (ends : RunEnds) × (values_for (params_of m f) args ≡ Some values) × RunsTo m f i values replies budget ends × (n ≡ status_code (run_status ends))
+    (values : List Value) × (ends : RunEnds) × (values_for (params_of m f) args ≡ Some values) × RunsTo m f i values replies budget ends
+    × (n ≡ status_code (run_status ends))

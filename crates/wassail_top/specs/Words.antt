@@ -44,7 +44,8 @@ each read (word ∷ words) = option_and_then (λ a. option_and_then (λ others. 
 
 -- the arguments and the replies
 abbrev pub given_of : List (List ℕ) → Option (List ℤ × List Reply)
-given_of words = option_and_then (λ args. option_and_then (λ replies. Some (args, replies)) (each reply_of (behind_slash words))) (each value_of (before_slash words))
+given_of words =
+    option_and_then (λ args. option_and_then (λ replies. Some (args, replies)) (each reply_of (behind_slash words))) (each value_of (before_slash words))
 
 -- the command of a function and a budget, with arguments and replies
 abbrev pub running : List (List ℕ) → Option Order

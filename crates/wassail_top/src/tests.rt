@@ -502,23 +502,63 @@ const COPY: &[u8] =
 #[test]
 fn runs_arithmetic_and_memory(rt: HostRuntime) -> Result<(), Fail> {
     let cases: [(&[u8], &str, u8, &str); 17] = [
-        (DIVIDE, "run 0 0 -2147483648 -1", 7, "trapped integer overflow\nturns 0\n"),
-        (DIVIDE, "run 0 0 7 0", 7, "trapped divide by zero\nturns 0\n"),
+        (
+            DIVIDE,
+            "run 0 0 -2147483648 -1",
+            7,
+            "trapped integer overflow\nturns 0\n",
+        ),
+        (
+            DIVIDE,
+            "run 0 0 7 0",
+            7,
+            "trapped divide by zero\nturns 0\n",
+        ),
         (DIVIDE, "run 0 0 -7 2", 0, "returned 4294967293\nturns 0\n"),
         (DIVIDE, "run 1 0 -2147483648 -1", 0, "returned 0\nturns 0\n"),
         (BOUNDS, "run 0 0 65535", 0, "returned 0\nturns 0\n"),
-        (BOUNDS, "run 1 0 65535", 7, "trapped memory out of bounds\nturns 0\n"),
-        (BOUNDS, "run 2 0 4294967295", 7, "trapped memory out of bounds\nturns 0\n"),
+        (
+            BOUNDS,
+            "run 1 0 65535",
+            7,
+            "trapped memory out of bounds\nturns 0\n",
+        ),
+        (
+            BOUNDS,
+            "run 2 0 4294967295",
+            7,
+            "trapped memory out of bounds\nturns 0\n",
+        ),
         (EXTEND, "run 0 0 128", 0, "returned 4294967168\nturns 0\n"),
         (EXTEND, "run 0 0 127", 0, "returned 127\nturns 0\n"),
-        (EXTEND, "run 1 0 2147483648", 0, "returned 18446744071562067968\nturns 0\n"),
+        (
+            EXTEND,
+            "run 1 0 2147483648",
+            0,
+            "returned 18446744071562067968\nturns 0\n",
+        ),
         (COPY, "run 0 0 1 0 4", 0, "returned 258\nturns 0\n"),
         (COPY, "run 1 0 65536 0", 0, "returned\nturns 0\n"),
         (COPY, "run 1 0 65535 1", 0, "returned\nturns 0\n"),
-        (COPY, "run 1 0 65536 1", 7, "trapped memory out of bounds\nturns 0\n"),
+        (
+            COPY,
+            "run 1 0 65536 1",
+            7,
+            "trapped memory out of bounds\nturns 0\n",
+        ),
         (COPY, "run 2 0", 0, "returned 7\nturns 0\n"),
-        (COPY, "run 2 0 1", 6, "wassail: query refused: arguments do not fit\n"),
-        (DIVIDE, "run 0 0 4294967296 1", 6, "wassail: query refused: arguments do not fit\n"),
+        (
+            COPY,
+            "run 2 0 1",
+            6,
+            "wassail: query refused: arguments do not fit\n",
+        ),
+        (
+            DIVIDE,
+            "run 0 0 4294967296 1",
+            6,
+            "wassail: query refused: arguments do not fit\n",
+        ),
     ];
     for (bytes, words, status, lines) in cases {
         let got = end_of(&rt, words, bytes)?;
@@ -558,19 +598,54 @@ fn runs_calls(rt: HostRuntime) -> Result<(), Fail> {
         (RECURSIVE, "trace 0 8 10 3", 0, seen),
         (RECURSIVE, "run 0 2 3", 8, "out of turns\n"),
         (RECURSIVE, "run 0 3 3", 0, "returned 4\nturns 3\n"),
-        (RECURSIVE, "trace 0 9 10 3", 6, "wassail: query refused: no instruction 9, function has 9\n"),
+        (
+            RECURSIVE,
+            "trace 0 9 10 3",
+            6,
+            "wassail: query refused: no instruction 9, function has 9\n",
+        ),
         (DEEP, "run 0 100000", 8, "out of turns\n"),
         (INDIRECT, "run 1 5 0", 0, "returned 42\nturns 1\n"),
-        (INDIRECT, "run 1 5 1", 7, "trapped wrong function type\nturns 0\n"),
-        (INDIRECT, "run 1 5 2", 7, "trapped empty table entry\nturns 0\n"),
-        (INDIRECT, "run 1 5 3", 7, "trapped no table entry\nturns 0\n"),
+        (
+            INDIRECT,
+            "run 1 5 1",
+            7,
+            "trapped wrong function type\nturns 0\n",
+        ),
+        (
+            INDIRECT,
+            "run 1 5 2",
+            7,
+            "trapped empty table entry\nturns 0\n",
+        ),
+        (
+            INDIRECT,
+            "run 1 5 3",
+            7,
+            "trapped no table entry\nturns 0\n",
+        ),
         (INDIRECT, "run 1 0 0", 8, "out of turns\n"),
         (TOO_FAR, "run 1 5 0", 7, "element segment 0 does not fit\n"),
-        (TRAPPING_START, "run 1 5", 7, "start trapped unreachable\nturns 0\n"),
+        (
+            TRAPPING_START,
+            "run 1 5",
+            7,
+            "start trapped unreachable\nturns 0\n",
+        ),
         (ENDLESS_START, "run 1 5", 8, "out of turns\n"),
-        (RETURNING, "trace 0 2 5", 6, "wassail: query refused: instruction 2 is dead\n"),
+        (
+            RETURNING,
+            "trace 0 2 5",
+            6,
+            "wassail: query refused: instruction 2 is dead\n",
+        ),
         (RETURNING, "run 0 0 /", 0, "returned 1\nturns 0\n"),
-        (RETURNING, "run 1 0", 6, "wassail: query refused: no function 1\n"),
+        (
+            RETURNING,
+            "run 1 0",
+            6,
+            "wassail: query refused: no function 1\n",
+        ),
     ];
     for (bytes, words, status, lines) in cases {
         let got = end_of(&rt, words, bytes)?;
@@ -602,20 +677,46 @@ const ZERO: &[u8] =
 
 #[test]
 fn runs_with_a_host(rt: HostRuntime) -> Result<(), Fail> {
-    let bytes = "take 1024\nleave 104\ntake 1025\nleave 105\ntake 1026\nleave 0\nreturned 2\nturns 2\n";
+    let bytes =
+        "take 1024\nleave 104\ntake 1025\nleave 105\ntake 1026\nleave 0\nreturned 2\nturns 2\n";
     let cases: [(&[u8], &str, u8, &str); 12] = [
         (HOST, "run 1 1 / 9", 0, "returned 9\nturns 1\n"),
         (HOST, "run 1 1", 7, "trapped host reply missing\nturns 1\n"),
-        (HOST, "run 1 1 / -", 7, "trapped host reply unfit\nturns 1\n"),
-        (HOST, "run 0 1", 6, "wassail: query refused: function 0 is imported\n"),
+        (
+            HOST,
+            "run 1 1 / -",
+            7,
+            "trapped host reply unfit\nturns 1\n",
+        ),
+        (
+            HOST,
+            "run 0 1",
+            6,
+            "wassail: query refused: function 0 is imported\n",
+        ),
         (PRINT, "run 2 100 1024 / 2", 0, "returned 2\nturns 4\n"),
-        (PRINT, "run 2 100 1024 / 2,m1024=00", 0, "returned 2\nturns 4\n"),
+        (
+            PRINT,
+            "run 2 100 1024 / 2,m1024=00",
+            0,
+            "returned 2\nturns 4\n",
+        ),
         (PRINT, "trace 1 5 100 1024", 0, bytes),
         (GROW, "run 0 0 2", 0, "returned 1\nturns 0\n"),
         (GROW, "run 0 0 3", 0, "returned 4294967295\nturns 0\n"),
-        (LARGE, "run 0 0 2", 6, "wassail: query refused: memory of 1025 pages is over 1024\n"),
+        (
+            LARGE,
+            "run 0 0 2",
+            6,
+            "wassail: query refused: memory of 1025 pages is over 1024\n",
+        ),
         (ZERO, "run 0 0", 0, "returned 0\nturns 0\n"),
-        (ZERO, "run 0 0 1", 6, "wassail: query refused: arguments do not fit\n"),
+        (
+            ZERO,
+            "run 0 0 1",
+            6,
+            "wassail: query refused: arguments do not fit\n",
+        ),
     ];
     for (bytes, words, status, lines) in cases {
         let got = end_of(&rt, words, bytes)?;

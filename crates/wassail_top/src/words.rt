@@ -22,9 +22,15 @@ pub enum Command {
     /// Write the module in its canonical spelling.
     Rewrite,
     /// Print the code of function `func`.
-    List { func: u32 },
+    List {
+        func: u32,
+    },
     /// Write the module with a slice of function `func` at position `at` appended, exported as `name`.
-    Slice { func: u32, at: u32, name: String },
+    Slice {
+        func: u32,
+        at: u32,
+        name: String,
+    },
     /// Run function `func` on these arguments within a budget of turns, where the host gives these replies.
     Run {
         func: u32,
@@ -115,8 +121,7 @@ fn parse_slice(rest: &[String]) -> Result<Command, WordsEnd>
     if name.len() > MOST_NAME_BYTES {
         return Err(WordsEnd::Refused);
     }
-    let (Some(func), Some(at)) = (parse_number(func.as_bytes()), parse_number(at.as_bytes()))
-    else {
+    let (Some(func), Some(at)) = (parse_number(func.as_bytes()), parse_number(at.as_bytes())) else {
         return Err(WordsEnd::Refused);
     };
     let Ok(name) = name.clone() else {

@@ -31,8 +31,9 @@ pub returns-in-Ok-deliver-clause-succeeds : goal.returns-in-Ok-deliver-clause-su
 returns-in-Ok-deliver-clause-succeeds g c =
     λ order bytes m named left short spells valid subset taken quiet _ _.
     let admitted : IsAdmitted m = record { valid = valid; no_float = subset.no_float; limits = subset.limits } in
-    inl (subst (HasStatus order m) (sym c.code-in-Ok-deliver.ensures) (succeeds (map string_bytes c.args.words.now) order bytes m _ _ _ _ (reply_answer c.in-Ok.reply)
-    named left short (spells, subset.nesting) admitted taken quiet c.in-Ok.ensures.due))
+    inl (subst (HasStatus order m) (sym c.code-in-Ok-deliver.ensures)
+    (succeeds (map string_bytes c.args.words.now) order bytes m _ _ _ _ (reply_answer c.in-Ok.reply) named left short
+    (spells, subset.nesting) admitted taken quiet c.in-Ok.ensures.due))
 
 pub returns-in-Ok-deliver-clause-slices : goal.returns-in-Ok-deliver-clause-slices
 returns-in-Ok-deliver-clause-slices g c =
