@@ -2,6 +2,7 @@ pub mod Cut
 pub mod Presence
 pub mod Heights
 pub mod Kept
+pub mod KeptSets
 pub mod Sliced
 pub mod Bounds
 pub mod Law
