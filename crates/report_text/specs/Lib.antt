@@ -3,3 +3,4 @@ pub mod RunTexts
 pub mod InstructionTexts
 pub mod Listing
 pub mod ListingOf
+pub mod KeptTexts

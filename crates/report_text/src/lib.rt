@@ -2,11 +2,13 @@
 #![tactic(auto)]
 
 mod instruction;
+mod kept;
 mod listing;
 mod refusal;
 mod run;
 mod text;
 
+pub use kept::kept_text;
 pub use listing::list_text;
 pub use refusal::{ModuleRefusal, QueryRefusal, Refusal};
 pub use run::{Outcome, run_text};

@@ -15,7 +15,7 @@ use std::alloc::{AllocError, Global};
 use wasm_types::{Instr, NoMemory, Node, Pos, Taker, ValType, ValidModule};
 
 /// Adds a node's name: a position by its number, and a block's end by j and the block's number.
-fn push_node(out: &mut Vec<u8>, node: Node) -> Result<(), AllocError>
+pub(crate) fn push_node(out: &mut Vec<u8>, node: Node) -> Result<(), AllocError>
     ensures { OnOk result (out.new.items ≡ out.old.items ++ node_text node) }
 {
     match node {
