@@ -1,1 +1,13 @@
-pub mod FlatKept
+pub mod Joined
+pub mod Numbers
+pub mod Pushes
+pub mod Takes
+pub mod Operands
+pub mod Standing
+pub mod Makers
+pub mod Onwards
+pub mod Exact
+pub mod Right
+pub mod Dead
+pub mod Searching
+pub mod Collecting

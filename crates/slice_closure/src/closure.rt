@@ -1,57 +1,224 @@
-//! The closure: which instructions of flat code a watched one depends on.
+//! The kept set of a watched position.
 
-ghost use Rattle.std.specs.Prelude.{◌≡◌, ◌<◌, ◌++◌, drop, if◌then◌else◌, IfOk, length, OnOk, replicate, reverse, slice_index_or, false, true};
+ghost use Rattle.std.specs.Prelude.{◌≡◌, ◌↔◌, ◌⊎◌, ◌+◌, ◌*◌, ◌^◌, ◌<◌, ◌≤◌, ◌∷◌, [], ℕ, Bool, Some, IfOk, IsTrue, length, map, true};
+ghost use Rattle.std.specs.List.{All, Contains};
 ghost use Rattle.wasm_types.specs.declared.module.FuncType.{FuncType};
 ghost use Rattle.wasm_types.specs.declared.module.Body.{Body};
-ghost use Rattle.wasm_types.specs.Actions.{Callees};
-ghost use Rattle.wasm_types.specs.Code.{code_of};
-ghost use Rattle.wasm_types.specs.Nodes.{At};
-ghost use Rattle.wasm_types.specs.Small.{IsSmallCode};
-ghost use Rattle.flow_domain.specs.Flat.{told_by};
+ghost use Rattle.wasm_types.specs.declared.place.Node.{Node};
+ghost use Rattle.wasm_types.specs.Actions.{callees};
+ghost use Rattle.wasm_types.specs.Subset.{IsSealed};
+ghost use Rattle.block_cfg.specs.Points.{HasPoints};
+ghost use Rattle.slice_closure.specs.Made.{AreMade};
+ghost use Rattle.wasm_types.specs.Spaces.{HasBody, body_of, func_types, import_count, type_of_func};
+ghost use Rattle.worklist.specs.Bits.{HasBit};
+ghost use Rattle.worklist.specs.Gains.{Gains};
+ghost use Rattle.worklist.specs.Reached.{Reached};
+ghost use Rattle.block_cfg.specs.Graph.{number};
+ghost use Rattle.stack_names.specs.Named.{AreNames, is_live_in};
 ghost use Rattle.flow_domain.specs.Kept.{Tells};
+ghost use Rattle.flow_domain.specs.KeptSets.{holds};
 ghost use Rattle.flow_domain.specs.Sliced.{KeptAt};
+ghost use Rattle.slice_closure.specs.Items.{Numbered};
+ghost use Rattle.slice_closure.specs.Next as spec;
 
-use flow_domain::{leaves_value, operand_count};
-use std::alloc::{AllocError, Global};
-use wasm_types::Instr;
+use crate::bounds::locs_bound;
+use crate::items::{Item, Numbering};
+use crate::search::Closing;
+use crate::tables::Tables;
+use crate::taken::takens;
+use block_cfg::{Cfg, edges, law_bodies_have_points, point_number, point_of_number};
+use control_deps::{Deciders, Nest};
+use flow_domain::{Kept, plain_locs};
+use sparse_reach::{SparseRows, reach_sparse};
+use stack_names::{Names, names};
+use stack_repair::law_valid_has_heights;
+use std::alloc::Global;
+use wasm_types::{Body, NoMemory, Node, Pos, ValidModule};
+use worklist::Root;
 
-/// Takes what is needed of the value that an instruction leaves off the stack of needs. Nothing is needed of a value below them.
-fn take_result(needs: &mut Vec<bool>, leaves: bool) -> bool
-    ensures value { result ≡ (if leaves then slice_index_or (reverse needs.old.items) 0 false else false) }
-    ensures rest { reverse needs.new.items ≡ (if leaves then drop 1 (reverse needs.old.items) else reverse needs.old.items) }
+/// By the number of a node whether it is a point.
+fn points_of(alloc: Global, cfg: &Cfg, nodes: usize) -> Result<Vec<bool>, NoMemory>
+    requires { All (λ point. number point < nodes) cfg.now.points }
+    ensures { IfOk result (λ marks. spec.AreMarked cfg.now.points nodes marks.items) }
 {
-    leaves && needs.pop().unwrap_or(false)
+    let mut marks = vec![in alloc; false; nodes].map_err(|_| NoMemory)?;
+    for point in cfg.points() {
+        marks[point_number(*point)] = true;
+    }
+    Ok(marks)
 }
 
-/// Puts the needs of so many operands on the stack of needs.
-fn push_operands(needs: &mut Vec<bool>, count: usize, keep: bool) -> Result<(), AllocError>
-    ensures { OnOk result (reverse needs.new.items ≡ replicate count keep ++ reverse needs.old.items) }
+/// Nodes as the roots of one label.
+fn roots_of(alloc: Global, nodes: &[usize]) -> Result<Vec<Root>, NoMemory>
+    ensures { IfOk result (λ roots. roots.items ≡ map (λ node. record { label = 0; node = node }) nodes.now) }
 {
-    for _ in 0..count {
-        needs.push(keep)?;
+    let mut roots = Vec::new(alloc);
+    for node in nodes {
+        roots
+            .push(Root {
+                label: 0,
+                node: *node,
+            })
+            .map_err(|_| NoMemory)?;
+    }
+    Ok(roots)
+}
+
+/// Keeps the node of a number, if the search met it.
+fn keep(kept: &mut Kept, index: usize, met: &SparseRows) -> Result<(), NoMemory>
+    requires few { index < 2 ^ 20 }
+    requires short { length kept.old ≤ 2 ^ 20 }
+    requires row { index < met.now.rows }
+    requires words { 0 < met.now.words * 64 }
+    ensures held { IfOk result (λ _. (n : Node) → holds kept.new n ≡ true ↔ ((holds kept.old n ≡ true) ⊎ ((number n ≡ index) × HasBit met.now.words met.now.bits index 0))) }
+    ensures short { (end : ℕ) → index < end → length kept.old ≤ end → length kept.new ≤ end }
+{
+    if met.has(index, 0) {
+        kept.add(point_of_number(index))?;
     }
     Ok(())
 }
 
-/// For each position of flat code whether it is kept, where position `at` is watched. It walks backwards with what is needed of each value on the stack.
-/// It fails only where an allocation is refused.
-pub fn close(alloc: Global, code: &[Instr], at: usize) -> Result<Vec<bool>, AllocError>
-    requires { IsSmallCode (code_of code.now) }
-    ensures len { IfOk result (λ kept. length kept.items ≡ length code.now) }
-    ensures watched { IfOk result (λ kept. at < length code.now → told_by kept.items (At at) ≡ true) }
-    // The flags tell the kept set of each body of this code.
-    ensures kept { IfOk result (λ kept. (cs : Callees) (t : FuncType) (b : Body) → b.code ≡ code.now → Tells (told_by kept.items) (KeptAt cs t b at)) }
+/// The nodes among the items that a search met.
+fn kept_of(alloc: Global, nodes: usize, met: &SparseRows) -> Result<Kept, NoMemory>
+    requires few { nodes ≤ 2 ^ 20 }
+    requires rows { nodes ≤ met.now.rows }
+    requires words { 0 < met.now.words * 64 }
+    ensures { IfOk result (λ kept. (n : Node) → holds kept n ≡ true ↔ ((number n < nodes) × HasBit met.now.words met.now.bits (number n) 0)) }
 {
-    let mut kept = vec![in alloc; false; code.len()]?;
-    let mut needs = Vec::new(alloc);
-    let mut left = code.len();
-    while left > 0 {
-        left -= 1;
-        let instr = &code[left];
-        let used = take_result(&mut needs, leaves_value(instr));
-        let keep = used || at == left;
-        kept[left] = keep;
-        push_operands(&mut needs, operand_count(instr), keep)?;
+    let mut kept = Kept::new(alloc);
+    for index in 0..nodes {
+        keep(&mut kept, index, met)?;
     }
+    Ok(kept)
+}
+
+/// Where the search begins.
+fn first(alloc: Global, closing: &Closing, at: Pos) -> Result<Vec<usize>, NoMemory>
+    requires { number (Node.At at) < closing.now.numbering.nodes }
+    ensures { IfOk result (λ list. Gains (Numbered closing.now.numbering.nodes (spec.First closing.now.tables at)) [] list.items) }
+{
+    let mut list = Vec::new(alloc);
+    closing.push(Item::Keeps(Node::At(at)), &mut list)?;
+    closing.push_makers(closing.tables.names.operands(at), &mut list)?;
+    Ok(list)
+}
+
+/// The nodes that the search for the kept set of a position meets.
+fn search(alloc: Global, closing: &Closing, at: Pos) -> Result<Kept, NoMemory>
+    requires { number (Node.At at) < closing.now.numbering.nodes }
+    ensures { IfOk result (λ kept. (n : Node) → holds kept n ≡ true ↔ Reached (spec.First closing.now.tables at) (spec.Next closing.now.tables) (Item.Keeps n)) }
+{
+    let list = first(alloc, closing, at)?;
+    let roots = roots_of(alloc, &list)?;
+    let met = reach_sparse(alloc, closing, 1, &roots)?;
+    let kept = kept_of(alloc, closing.numbering.nodes, &met)?;
+    Ok(kept)
+}
+
+/// The kept set of a live position, by the tables of its body.
+fn close_tables(
+    alloc: Global,
+    m: &ValidModule,
+    func: u32,
+    tables: Tables,
+    at: Pos,
+) -> Result<Kept, NoMemory>
+    requires made { AreMade m.now func at tables }
+    requires points { HasPoints tables.body.now }
+    ensures { IfOk result (λ kept. (t : FuncType) (b : Body) → type_of_func m.now func ≡ Some t → HasBody m.now func b → Tells (holds kept) (KeptAt (callees m.now) t b at.0)) }
+{
+    let nodes = 2 * tables.body.count() as usize + 1;
+    let points = points_of(alloc, tables.cfg, nodes)?;
+    let locs = locs_bound(tables.locs);
+    let closing = Closing {
+        tables,
+        numbering: Numbering { nodes, locs },
+        points: &points,
+    };
+    let kept = search(alloc, &closing, at)?;
+    Ok(kept)
+}
+
+/// The body of an own function.
+fn own_body(m: &ValidModule, func: u32) -> &Body
+    requires imported { import_count m.now ≤ func }
+    requires own { func < length (func_types m.now) }
+    ensures body { body_of m.now func ≡ Some result.now }
+    ensures points { HasPoints result.now }
+    ensures sealed { IsSealed m.now }
+{
+    law_bodies_have_points();
+    let module = m.module();
+    let Some(body) = module.body(func) else {
+        unreachable!()
+    };
+    body
+}
+
+/// The kept set of a live position, by the names of its body.
+fn close_live(
+    alloc: Global,
+    m: &ValidModule,
+    func: u32,
+    names: &Names,
+    at: Pos,
+) -> Result<Kept, NoMemory>
+    requires imported { import_count m.now ≤ func }
+    requires own { func < length (func_types m.now) }
+    requires names { (w : ℕ → Bool) → AreNames m.now func w names.now }
+    requires live { is_live_in names.now.positions at.0 ≡ true }
+    ensures { IfOk result (λ kept. (t : FuncType) (b : Body) → type_of_func m.now func ≡ Some t → HasBody m.now func b → Tells (holds kept) (KeptAt (callees m.now) t b at.0)) }
+{
+    law_valid_has_heights();
+    let body = own_body(m, func);
+    let cfg = edges(alloc, body)?;
+    let locs = plain_locs(alloc, m, func)?;
+    let nest = Nest::of(alloc, body)?;
+    let deciders = Deciders::of(alloc, &nest)?;
+    let taken = takens(alloc, body)?;
+    let tables = Tables {
+        body,
+        cfg: &cfg,
+        names,
+        locs: &locs,
+        nest: &nest,
+        deciders: &deciders,
+        taken: &taken,
+    };
+    let kept = close_tables(alloc, m, func, tables, at)?;
+    Ok(kept)
+}
+
+/// The kept set of a position of an own function (docs/ANALYSES.md, "The kept set"), by the names of its body: exactly what the rules keep where calls do
+/// nothing, and no node where the position is not live. It takes time by what is met, and memory by the body and by what is met. It fails only where memory is
+/// refused.
+pub fn close_named(
+    alloc: Global,
+    m: &ValidModule,
+    func: u32,
+    names: &Names,
+    at: Pos,
+) -> Result<Kept, NoMemory>
+    requires imported { import_count m.now ≤ func }
+    requires own { func < length (func_types m.now) }
+    requires names { (w : ℕ → Bool) → AreNames m.now func w names.now }
+    ensures { IfOk result (λ kept. (t : FuncType) (b : Body) → type_of_func m.now func ≡ Some t → HasBody m.now func b → Tells (holds kept) (KeptAt (callees m.now) t b at.0)) }
+{
+    if !names.live(at) {
+        return Ok(Kept::new(alloc));
+    }
+    let kept = close_live(alloc, m, func, names, at)?;
+    Ok(kept)
+}
+
+/// The kept set of a position of an own function, as `close_named` answers it.
+pub fn close(alloc: Global, m: &ValidModule, func: u32, at: Pos) -> Result<Kept, NoMemory>
+    requires imported { import_count m.now ≤ func }
+    requires own { func < length (func_types m.now) }
+    ensures { IfOk result (λ kept. (t : FuncType) (b : Body) → type_of_func m.now func ≡ Some t → HasBody m.now func b → Tells (holds kept) (KeptAt (callees m.now) t b at.0)) }
+{
+    let names = names(alloc, m, func)?;
+    let kept = close_named(alloc, m, func, &names, at)?;
     Ok(kept)
 }

@@ -1,6 +1,11 @@
-//! Which positions of a body a watched one depends on.
+//! Which nodes of a body a watched position depends on.
 #![tactic(auto)]
 
+mod bounds;
 mod closure;
+mod items;
+mod search;
+mod tables;
+mod taken;
 
-pub use closure::close;
+pub use closure::{close, close_named};

@@ -1,0 +1,123 @@
+-- What a list gains, by items.
+use Rattle.std.proofs.Common.{◌≡◌, ℕ, ◌+◌, ◌<◌, ◌≤◌, List, [], ◌∷◌, ◌++◌, length, get_or, take, Bool, true, false, ◌↔◌, Some, None, refl, sym, ap, ◌∙◌, subst, inl, inr, ◌⊎◌, ⊎_elim, arith}
+use Rattle.std.specs.List.{Contains}
+use Rattle.std.proofs.lemmas.List.{take_all, take_more}
+use Rattle.std.proofs.lemmas.List.Elements.{Contains-push, Contains-push_cases, Contains-append_left}
+use Rattle.std.proofs.lemmas.Bool.{cases_eq}
+use Rattle.std.proofs.lemmas.Grind.{not_there}
+use Rattle.wasm_types.specs.declared.module.Pos.{Pos}
+use Rattle.wasm_types.specs.declared.module.Body.{Body}
+use Rattle.wasm_types.specs.declared.place.Loc.{Loc}
+use Rattle.wasm_types.specs.declared.place.Node.{Node}
+use Rattle.wasm_types.specs.declared.place.Node.TheVariants as node
+use Rattle.wasm_types.specs.Nodes.{At}
+use Rattle.wasm_types.specs.Takers.{is_among}
+use Rattle.wasm_types.specs.Reaching.{Table, Writes, writes_it}
+use Rattle.block_cfg.specs.Graph.{number}
+use Rattle.block_cfg.proofs.MemberLemmas.{among_of, contains_of}
+use Rattle.slice_closure.proofs.Joined.{among_is, is_among_of}
+use Rattle.wasm_types.specs.Code.{code_of}
+use Rattle.control_deps.specs.Nest.{IsAround, IsNestOf}
+use Rattle.slice_closure.specs.declared.tables.Tables.{Tables}
+use Rattle.worklist.specs.Gains.{Gains}
+use Rattle.worklist.proofs.Pushing.{gains_none, gains_push, gains_same, gains_then}
+use Rattle.slice_closure.specs.declared.items.Item.{Item}
+use Rattle.slice_closure.specs.Items.{item_number, Numbered}
+use Rattle.slice_closure.specs.Next.{FromEach, IsHolder, AreMarked}
+
+none_there : {A : Type 0} (x : A) → Contains [] x → ⊥
+none_there x (k, lt, is) = omega arith
+
+pub numbered_none : (N : ℕ) (R : Item → Type 0) (xs : List ℕ) → ((j : Item) → R j → ⊥) → Gains (Numbered N R) xs xs
+numbered_none N R xs none = gains_none (Numbered N R) xs (λ y (j, (r, e)). none j r)
+
+pub numbered_one : (N : ℕ) (i : Item) (k : ℕ) (xs ys : List ℕ) → k ≡ item_number N i → ys ≡ xs ++ k ∷ [] → Gains (Numbered N (λ j. j ≡ i)) xs ys
+numbered_one N i k xs ys is pushed = rw pushed (gains_same (λ y. y ≡ k) (Numbered N (λ j. j ≡ i)) xs (xs ++ k ∷ [])
+    (λ y e. (i, (refl, e ∙ is)))
+    (λ y (j, (same, e)). e ∙ (ap (item_number N) same ∙ sym is))
+    (gains_push xs k))
+
+pub numbered_same : (N : ℕ) (P Q : Item → Type 0) (xs ys : List ℕ) → ((j : Item) → P j → Q j) → ((j : Item) → Q j → P j) → Gains (Numbered N P) xs ys
+    → Gains (Numbered N Q) xs ys
+numbered_same N P Q xs ys to from g = gains_same (Numbered N P) (Numbered N Q) xs ys (λ y (j, (p, e)). (j, (to j p, e))) (λ y (j, (q, e)). (j, (from j q, e))) g
+
+-- one rule after the other
+pub numbered_both : (N : ℕ) (P Q : Item → Type 0) (xs ys zs : List ℕ) → Gains (Numbered N P) xs ys → Gains (Numbered N Q) ys zs
+    → Gains (Numbered N (λ j. P j ⊎ Q j)) xs zs
+numbered_both N P Q xs ys zs g h = gains_then (Numbered N P) (Numbered N Q) (Numbered N (λ j. P j ⊎ Q j)) xs ys zs
+    (λ y (j, (r, e)). ⊎_elim (λ p. inl (j, (p, e))) (λ q. inr (j, (q, e))) r)
+    (λ y (j, (p, e)). (j, (inl p, e)))
+    (λ y (j, (q, e)). (j, (inr q, e)))
+    g h
+
+pub each_none : {A : Type 0} (N : ℕ) (Q : A → Item → Type 0) (xs : List ℕ) → Gains (Numbered N (FromEach [] Q)) xs xs
+each_none {A} N Q xs = numbered_none N (FromEach [] Q) xs (λ j (x, (has, q)). none_there x has)
+
+-- one element more
+pub each_more : {A : Type 0} (N : ℕ) (Q : A → Item → Type 0) (list : List A) (i : ℕ) (d : A) (xs ys zs : List ℕ) → i < length list
+    → Gains (Numbered N (FromEach (take i list) Q)) xs ys → Gains (Numbered N (Q (get_or list i d))) ys zs
+    → Gains (Numbered N (FromEach (take (i + 1) list) Q)) xs zs
+each_more {A} N Q list i d xs ys zs lt g h =
+    let x = get_or list i d in
+    let front = take i list in
+    let e : take (i + 1) list ≡ front ++ x ∷ [] = take_more list i d lt in
+    rw e (numbered_same N (λ j. FromEach front Q j ⊎ Q x j) (FromEach (front ++ x ∷ []) Q) xs zs
+    (λ j r. ⊎_elim (λ (y, (has, q)). (y, (Contains-append_left front (x ∷ []) y has, q))) (λ q. (x, (Contains-push front x, q))) r)
+    (λ j (y, (has, q)). ⊎_elim (λ old. inl (y, (old, q))) (λ is. inr (subst (λ z. Q z j) (sym is) q)) (Contains-push_cases front x y has))
+    (numbered_both N (FromEach front Q) (Q x) xs ys zs g h))
+
+pub each_all : {A : Type 0} (N : ℕ) (Q : A → Item → Type 0) (list all : List A) (i : ℕ) (xs ys : List ℕ) → length list ≤ i → list ≡ all
+    → Gains (Numbered N (FromEach (take i list) Q)) xs ys → Gains (Numbered N (FromEach all Q)) xs ys
+each_all {A} N Q list all i xs ys le same g =
+    subst (λ (z : List A). Gains (Numbered N (FromEach z Q)) xs ys) (take_all i list le ∙ same) g
+
+-- ---- what is around a position is one
+
+pub one_holder : (t : Tables) → ∥ IsNestOf t.body.now t.nest.now ∥₁ → (p : ℕ) (b b' : Pos) → IsHolder t p b → IsHolder t p b' → b.0 ≡ b'.0
+one_holder t nested p b b' h h' = elim (cases_eq b.0 b'.0) [
+  | inl e ↦ e
+  | inr ne ↦ absurd (not_there nested (λ n. let x = (h n).1 b'.0 (h' n).0 in let y = (h' n).1 b.0 (h n).0 in ne (omega arith)))
+]
+
+pub no_holder : (t : Tables) → ∥ IsNestOf t.body.now t.nest.now ∥₁ → (p : ℕ)
+    → ((body : Body) → IsNestOf body t.nest.now → IsAround (code_of body.code) p None) → (b : Pos) → IsHolder t p b → ⊥
+no_holder t nested p none b h = not_there nested (λ n. none t.body.now n b.0 (h n).0)
+
+pub same_pos : (p q : Pos) → Some p ≡ Some q → p.0 ≡ q.0
+same_pos p q e = let same : p ≡ q = cc in ap (λ (z : Pos). z.0) same
+
+-- ---- writers and points
+
+writes_is : (W : Table) (x : Loc) (n : Node) → Writes W x n → (p : ℕ) × ((n ≡ At p) × W p x)
+writes_is W x _ (writes_it {p} w) = (p, (refl, w))
+
+written_there : (W : Table) (x : Loc) (p : ℕ) → Writes W x (At p) → W p x
+written_there W x p (writes_it w) = w
+
+pub writes_at : (W : Table) (x : Loc) (n : Node) (pos : Pos) (b : Bool) → n ≡ node.At pos → (b ≡ true) ↔ W pos.0 x → (b ≡ true) ↔ Writes W x n
+writes_at W x n pos b is tells = (
+  λ h. subst (λ m. Writes W x m) (sym is) (writes_it (tells.0 h)),
+  λ h. tells.1 (written_there W x pos.0 (subst (λ m. Writes W x m) is h)),
+)
+
+pub writes_not : (W : Table) (x : Loc) (n : Node) → ((p : ℕ) → n ≡ At p → ⊥) → (false ≡ true) ↔ Writes W x n
+writes_not W x n none = (λ h. absurd cc, λ h. let w = writes_is W x n h in absurd (none w.0 w.1.0))
+
+pub join_apart : (n : Node) (b : Pos) → n ≡ node.Join b → (p : ℕ) → n ≡ At p → ⊥
+join_apart n b is p e = cc
+
+pub exit_apart : (n : Node) → n ≡ node.Exit → (p : ℕ) → n ≡ At p → ⊥
+exit_apart n is p e = cc
+
+pub off_point : (points : List Node) (N : ℕ) (marks : List Bool) → AreMarked points N marks → (n : Node) (k : ℕ) → k ≡ number n → number n < N
+    → get_or marks k false ≡ false → Contains points n → ⊥
+off_point points N marks marked n k e lt off has =
+    let here : get_or marks k false ≡ is_among n points = ap (λ i. get_or marks i false) e ∙ marked.marked n lt in
+    let on : is_among n points ≡ true = is_among_of n points (among_of points n has) in
+    cc
+
+pub on_point : (points : List Node) (N : ℕ) (marks : List Bool) → AreMarked points N marks → (n : Node) (k : ℕ) → k ≡ number n → number n < N
+    → get_or marks k false ≡ true → Contains points n
+on_point points N marks marked n k e lt on =
+    let here : get_or marks k false ≡ is_among n points = ap (λ i. get_or marks i false) e ∙ marked.marked n lt in
+    contains_of points n (among_is n points (sym here ∙ on))

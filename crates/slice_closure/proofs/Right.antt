@@ -1,0 +1,179 @@
+-- The tables that are made of a body are right.
+use Rattle.std.proofs.Common.{◌≡◌, ◌↔◌, ℕ, ◌+◌, ◌*◌, ◌<◌, List, [], ◌∷◌, Bool, true, false, Option, Some, None, length, get_or, refl, sym, ap, ◌∙◌, subst, arith, nat_eq}
+use Rattle.std.specs.Prelude.{slice_get}
+use Rattle.std.specs.List.{All, Contains}
+use Rattle.std.specs.Option.{option_map}
+use Rattle.std.proofs.lemmas.Option.{slice_get-map}
+use Rattle.std.proofs.lemmas.Grind.{merely}
+use Rattle.std.proofs.lemmas.List.Elements.{All-contains_itself}
+use Rattle.wasm_types.specs.declared.module.ValType.{ValType}
+use Rattle.wasm_types.specs.declared.module.Pos.{Pos}
+use Rattle.wasm_types.specs.declared.module.FuncType.{FuncType}
+use Rattle.wasm_types.specs.declared.module.Body.{Body}
+use Rattle.wasm_types.specs.declared.module.Module.{Module}
+use Rattle.wasm_types.specs.declared.place.Node.{Node}
+use Rattle.wasm_types.specs.declared.place.Node.TheVariants.{Exit}
+use Rattle.wasm_types.specs.Code.{code_of, count}
+use Rattle.wasm_types.specs.Marked.{Marked, size}
+use Rattle.wasm_types.specs.Spaces.{type_of_func, body_of, HasBody}
+use Rattle.wasm_types.specs.Subset.{IsSealed}
+use Rattle.body_check.proofs.BodyLemmas.{body-among}
+use Rattle.wasm_types.specs.Actions.{Callees, callees}
+use Rattle.wasm_types.specs.Nodes.{At}
+use Rattle.wasm_types.specs.Labels.{body_label}
+use Rattle.wasm_types.specs.Sites.{Site, Sites, IsSite, EndAt, body_sites, body_ends}
+use Rattle.wasm_types.specs.Takers.{joined_of}
+use Rattle.block_cfg.specs.Graph.{number, row_of}
+use Rattle.block_cfg.specs.Points.{IsPoint}
+use Rattle.block_cfg.proofs.MemberLemmas.{among_of}
+use Rattle.block_cfg.proofs.SiteLemmas.{size_marked}
+use Rattle.stack_names.specs.declared.place.Place.{Place}
+use Rattle.stack_names.specs.Named.{Named, AreNames, is_listed, is_live_in, operands_in, of_node, listed, listed_all, code_in, sites_in}
+use Rattle.control_deps.specs.Nearest.{nearest_in}
+use Rattle.control_deps.proofs.FindLemmas.{holder_found, around_site}
+use Rattle.flow_domain.specs.declared.loc_table.LocUse.{LocUse}
+use Rattle.flow_domain.specs.Heights.{Shaped}
+use Rattle.flow_domain.specs.LocTables.{row_in}
+use Rattle.flow_domain.specs.Kept.{Tells}
+use Rattle.flow_domain.specs.KeptSets.{KeptSet, holds}
+use Rattle.flow_domain.specs.Sliced.{KeptAt, context_of, watched_code}
+use Rattle.stack_repair.specs.Law.{HasTypes, ValidHasHeights}
+use Rattle.worklist.specs.Reached.{Reached}
+use Rattle.slice_closure.specs.declared.tables.Tables.{Tables}
+use Rattle.slice_closure.specs.declared.taken.Taken.{Taken}
+use Rattle.slice_closure.specs.declared.items.Item.TheVariants.{Keeps}
+use Rattle.slice_closure.specs.Items.{loc_number}
+use Rattle.slice_closure.specs.Next.{First, Next, Fits}
+use Rattle.slice_closure.specs.Made.{AreMade}
+use Rattle.slice_closure.proofs.Joined.{Comes, joined_comes}
+use Rattle.slice_closure.proofs.Takes.{takes_at}
+use Rattle.slice_closure.proofs.Operands.{operands_has, operand_site}
+use Rattle.slice_closure.proofs.Makers.{name_point, joined_point, point_below}
+use Rattle.slice_closure.proofs.Exact.{AreRight, shadow_site, met_means, kept_met}
+
+-- what is listed is live
+live_site : (cs : Callees) (T : Node → ValType) (S : Sites) (p : ℕ) → is_live_in (listed_all cs T S) p ≡ true → (s : Site) × IsSite S p s
+live_site cs T S p h = go (slice_get S p) refl
+  where
+    at : (o : Option (Option Site)) → slice_get S p ≡ o → is_listed (option_map (option_map (listed cs T)) o) ≡ true
+    at o e = sym (ap is_listed (slice_get-map (option_map (listed cs T)) S p ∙ ap (option_map (option_map (listed cs T))) e)) ∙ h
+
+    go : (o : Option (Option Site)) → slice_get S p ≡ o → (s : Site) × IsSite S p s
+    go None e = let off : false ≡ true = at None e in absurd cc
+    go (Some None) e = let off : false ≡ true = at (Some None) e in absurd cc
+    go (Some (Some s)) e = (s, e)
+
+-- all elements, where each that is contained is so
+pub all_from : {A : Type 0} (P : A → Type 0) (xs : List A) → ((x : A) → Contains xs x → P x) → All P xs
+all_from P xs f = λ k d lt. f (get_or xs k d) (All-contains_itself xs k d lt)
+
+pub same_some : (a b : Body) → Some a ≡ Some b → a ≡ b
+same_some a b e = cc
+
+pub same_type : (a b : FuncType) → Some a ≡ Some b → a ≡ b
+same_type a b e = cc
+
+module _ (m : Module) (f : ℕ) (at : Pos) (t : Tables) (made : AreMade m f at t) where
+  abbrev cs : Callees
+  cs = callees m
+
+  abbrev body : Body
+  body = t.body.now
+
+  abbrev w : ℕ → Bool
+  w = nat_eq at.0
+
+  abbrev code : Marked
+  code = watched_code w body
+
+  abbrev results : ℕ
+  results = length made.names.kind.results
+
+  abbrev S : Sites
+  S = body_sites cs results code
+
+  abbrev ends : List EndAt
+  ends = body_ends cs results code
+
+  positions_are : t.names.now.positions ≡ listed_all cs made.names.types S
+  positions_are = made.names.positions ∙ ap (λ b. listed_all cs made.names.types (sites_in m made.names.kind w b)) made.same
+
+  joined_are : (j : Node) → of_node t.names.now.joined j ≡ joined_of cs results code j
+  joined_are j = made.names.joined j ∙ ap (λ b. joined_of cs results (code_in w b) j) made.same
+
+  here : (s : Site) × IsSite S at.0 s
+  here = live_site cs made.names.types S at.0 (subst (λ ls. is_live_in ls at.0 ≡ true) positions_are made.live)
+
+  right : AreRight cs S ends made.names.types t at
+  right =
+      let g = made.cfg cs results w in
+      let near = made.near body made.nest cs results w in
+      record {
+        live = here.0;
+        is_live = here.1;
+        points = g.points;
+        before = g.before;
+        leads = g.stays;
+        plain = made.plain cs results w;
+        watched = λ p s is. (takes_at cs w (code_of body.code) (body_label results (size code) ∷ []) Exit p s is).1;
+        taken = λ p s is. ap (λ (ts : List Taken). slice_get ts p) made.taken ∙ (takes_at cs w (code_of body.code) (body_label results (size code) ∷ []) Exit p s is).0;
+        positions = positions_are;
+        joined = λ j x. subst (λ (xs : List Node). Contains xs x ↔ Comes S ends j x) (sym (joined_are j)) (joined_comes cs (HasTypes (context_of m made.names.kind body)) results code made.shaped j x);
+        name_points = λ p s is k x e. name_point cs results code p s is k x e;
+        joined_points = λ j x has. joined_point cs results code j x (among_of (joined_of cs results code j) x (subst (λ (xs : List Node). Contains xs x) (joined_are j) has));
+        nest = made.nest;
+        earlier = near.earlier;
+        latest = near.latest;
+        all = near.all;
+        holders = λ b q s is lt lt'. holder_found body t.nest.now made.nest cs results w (nearest_in t.deciders.now) b q s is lt lt';
+        held = λ q b s is around. around_site body t.nest.now made.nest cs results w q s b is around;
+      }
+
+  size_is : size code ≡ count (code_of body.code)
+  size_is = size_marked w (code_of body.code) 0
+
+  below : (N : ℕ) → N ≡ 2 * count (code_of body.code) + 1 → (n : Node) → IsPoint S n → number n < N
+  below N e n h = let lt = point_below cs results code n h in omega (arith, size_is)
+
+  pub at_below : (N : ℕ) → N ≡ 2 * count (code_of body.code) + 1 → number (At at.0) < N
+  at_below N e = below N e (At at.0) here
+
+  pub tables_fit : (N L : ℕ) → N ≡ 2 * count (code_of body.code) + 1 → ((p : ℕ) → All (λ (u : LocUse). loc_number u.loc < L) (row_in (slice_get t.locs.now p)))
+      → Fits N L t
+  tables_fit N L e uses = record {
+    operands = λ p. all_from (λ (place : Place). number place.maker < N) (operands_in t.names.now.positions p) (λ place has.
+        let listed = subst (λ ls. Contains (operands_in ls p) place) positions_are has in
+        let s = operand_site made.names.types cs S p place listed in
+        let o = operands_has made.names.types cs S p s.0 s.1 place listed in
+        below N e place.maker (right.name_points p s.0 s.1 o.0 place.maker o.1.1));
+    joined = λ n. all_from (λ (k : Node). number k < N) (of_node t.names.now.joined n) (λ x has. below N e x (right.joined_points n x has));
+    before = λ n. all_from (λ (k : Node). number k < N) (row_of t.cfg.now.before n) (λ a has. below N e a (right.leads a n ((right.before a n).0 has)).0);
+    uses = uses;
+    earlier = λ n p near. below N e (At p.0) (shadow_site S p.0 n (right.earlier n p near));
+    latest = λ n p near. below N e (At p.0) (shadow_site S p.0 n (right.latest n p near));
+    nested = merely made.nest;
+  }
+
+  pub points_fit : (N : ℕ) → N ≡ 2 * count (code_of body.code) + 1 → All (λ (n : Node). number n < N) t.cfg.now.points
+  points_fit N e = all_from (λ (n : Node). number n < N) t.cfg.now.points (λ n has. below N e n ((right.points n).0 has))
+
+  -- what the search met is the kept set of the body
+  pub search_tells : (K : KeptSet) → ((n : Node) → holds K n ≡ true ↔ Reached (First t at) (Next t) (Keeps n)) → (F : FuncType) (b : Body)
+      → type_of_func m f ≡ Some F → HasBody m f b → Tells (holds K) (KeptAt cs F b at.0)
+  search_tells K met F b kind has n =
+      let same_kind : made.names.kind ≡ F = same_type made.names.kind F (sym made.names.kind_is ∙ kind) in
+      let same_body : body ≡ b = sym made.same ∙ same_some made.names.body b (sym made.names.has_body.1 ∙ has.1) in (
+        λ h. subst (λ (F' : FuncType). KeptAt cs F' b at.0 n) same_kind (subst (λ (b' : Body). KeptAt cs made.names.kind b' at.0 n) same_body
+            (met_means cs S ends made.names.types t at right (Keeps n) ((met n).0 h)).0),
+        λ kept. (met n).1 (kept_met cs S ends made.names.types t at right n (subst (λ (b' : Body). KeptAt cs made.names.kind b' at.0 n) (sym same_body)
+            (subst (λ (F' : FuncType). KeptAt cs F' b at.0 n) (sym same_kind) kept))),
+      )
+
+-- the names of a body and its heights
+pub names_same : (m : Module) (f : ℕ) (w : ℕ → Bool) (n : Named) (a : AreNames m f w n) (b : Body) → body_of m f ≡ Some b → a.body ≡ b
+names_same m f w n a b is = same_some a.body b (sym a.has_body.1 ∙ body-among m f b is)
+
+pub names_shaped : (m : Module) (f : ℕ) (w : ℕ → Bool) (n : Named) (a : AreNames m f w n) (b : Body) → body_of m f ≡ Some b → IsSealed m → ValidHasHeights
+    → Shaped (callees m) (HasTypes (context_of m a.kind b)) (length a.kind.results ∷ []) (length a.kind.results) (watched_code w b) 0
+names_shaped m f w n a b is sealed heights = heights m a.kind b
+    (record { valid = sealed.valid; no_float = sealed.no_float; func = f; kind_is = a.kind_is; has_body = (a.has_body.0, body-among m f b is) }) w

@@ -1,0 +1,176 @@
+-- Which operands are taken, by a walk and by the sites: and what the sites of a body have in common.
+use Rattle.std.proofs.Common.{◌≡◌, ℕ, zero, suc, ◌+◌, List, [], ◌∷◌, ◌++◌, Bool, true, false, Option, Some, None, replicate, drop, length, length-append, refl, ap, sym, ◌∙◌, subst, arith, append_assoc}
+use Rattle.std.specs.Prelude.{slice_get}
+use Rattle.std.proofs.lemmas.List.{append-nil}
+use Rattle.wasm_types.specs.declared.module.ValType.{ValType}
+use Rattle.wasm_types.specs.declared.place.Node.{Node}
+use Rattle.wasm_types.specs.declared.instr.Instr.{Instr, Block', Loop', If'}
+use Rattle.wasm_types.specs.declared.instr.Instr as instr
+use Rattle.wasm_types.specs.declared.instr.Instr.TheVariants.{Block, Loop, If}
+use Rattle.wasm_types.specs.Code.{Code, done, one, block, repeat, branch, onto, code_of_row, code_of, count, is_plain}
+use Rattle.wasm_types.specs.Marked.{Marked, plain, marked, size}
+use Rattle.wasm_types.specs.Nodes.{Join, named, made}
+use Rattle.wasm_types.specs.Labels.{Label, arity, block_label, loop_label}
+use Rattle.wasm_types.specs.Actions.{Callees}
+use Rattle.wasm_types.specs.Sites.{Site, Sites, IsSite, sites}
+use Rattle.wasm_types.proofs.CodeLemmas.{onto-block, onto-loop, onto-if, onto-one}
+use Rattle.block_cfg.proofs.SiteLemmas.{size_marked}
+use Rattle.slice_closure.specs.declared.taken.Taken.{Taken}
+use Rattle.slice_closure.specs.declared.taken.Taken.TheVariants.{All}
+use Rattle.slice_closure.specs.Takens.{taken_by, taken_at, takens}
+
+-- ---- what the walk finds
+
+is_one : Code → Bool
+is_one (one i rest) = true
+is_one _ = false
+
+holder_takes : (i : Instr) → is_one (onto i done) ≡ false → taken_by i ≡ All
+unfolding is_one onto code_of_row
+holder_takes (Block' k m inner) h = refl
+holder_takes (Loop' k m inner) h = refl
+holder_takes (If' k m first n second) h = refl
+holder_takes _ h = absurd cc
+
+module _ (i : Instr) (a b : List Taken) (made : b ≡ a ++ taken_by i ∷ []) where
+  pub block_takes : (k : Option ValType) (xs : List Instr) (c : List Taken) → i ≡ Block k xs → c ≡ b ++ takens (code_of xs) → c ≡ a ++ takens (onto i done)
+  unfolding is_one
+  block_takes k xs c is more =
+      let e : onto i done ≡ block k (code_of xs) done = ap (λ (z : Instr). onto z done) is ∙ onto-block k xs done in
+      let all : taken_by i ≡ All = holder_takes i (rw e refl) in
+      rw (e, more, made, all, append-nil (takens (code_of xs))) (append_assoc a (All ∷ []) (takens (code_of xs)))
+
+  pub loop_takes : (k : Option ValType) (xs : List Instr) (c : List Taken) → i ≡ Loop k xs → c ≡ b ++ takens (code_of xs) → c ≡ a ++ takens (onto i done)
+  unfolding is_one
+  loop_takes k xs c is more =
+      let e : onto i done ≡ repeat k (code_of xs) done = ap (λ (z : Instr). onto z done) is ∙ onto-loop k xs done in
+      let all : taken_by i ≡ All = holder_takes i (rw e refl) in
+      rw (e, more, made, all, append-nil (takens (code_of xs))) (append_assoc a (All ∷ []) (takens (code_of xs)))
+
+  pub if_takes : (k : Option ValType) (xs ys : List Instr) (c d : List Taken) → i ≡ If k xs ys → c ≡ b ++ takens (code_of xs) → d ≡ c ++ takens (code_of ys)
+      → d ≡ a ++ takens (onto i done)
+  unfolding is_one
+  if_takes k xs ys c d is more also =
+      let e : onto i done ≡ branch k (code_of xs) (code_of ys) done = ap (λ (z : Instr). onto z done) is ∙ onto-if k xs ys done in
+      let all : taken_by i ≡ All = holder_takes i (rw e refl) in
+      rw (e, also, more, made, all, append-nil (takens (code_of ys)))
+      (append_assoc (a ++ All ∷ []) (takens (code_of xs)) (takens (code_of ys)) ∙ append_assoc a (All ∷ []) (takens (code_of xs) ++ takens (code_of ys)))
+
+  pub one_takes : is_plain i ≡ true → b ≡ a ++ takens (onto i done)
+  one_takes h = rw (onto-one i done h, made) refl
+
+-- of an instruction, and then of the rest
+takens-onto : (i : Instr) (rest : Code) → takens (onto i rest) ≡ takens (onto i done) ++ takens rest
+unfolding onto code_of_row
+takens-onto (Block' k m inner) rest = ap (λ (xs : List Taken). All ∷ (xs ++ takens rest)) (sym (append-nil (takens (code_of_row inner))))
+takens-onto (Loop' k m inner) rest = ap (λ (xs : List Taken). All ∷ (xs ++ takens rest)) (sym (append-nil (takens (code_of_row inner))))
+takens-onto (If' k m first n second) rest =
+    let x : List Taken = takens (code_of_row first) in let y : List Taken = takens (code_of_row second) in
+    ap (λ (xs : List Taken). All ∷ xs) (sym (append_assoc x y (takens rest)) ∙ ap (λ (z : List Taken). (x ++ z) ++ takens rest) (sym (append-nil y)))
+takens-onto _ rest = refl
+
+pub takens-next : (i : Instr) (rest : Code) (a b all : List Taken) → b ≡ a ++ takens (onto i done) → a ++ takens (onto i rest) ≡ all → b ++ takens rest ≡ all
+takens-next i rest a b all made e =
+    rw made (append_assoc a (takens (onto i done)) (takens rest) ∙ (ap (λ (xs : List Taken). a ++ xs) (sym (takens-onto i rest)) ∙ e))
+
+-- ---- positions and sites, one by one
+
+pub length-takens : (c : Code) → length (takens c) ≡ count c
+length-takens done = refl
+length-takens (one op rest) = omega (arith, length-takens rest)
+length-takens (block kind inner rest) = omega (arith, length-append (takens inner) (takens rest), length-takens inner, length-takens rest)
+length-takens (repeat kind inner rest) = omega (arith, length-append (takens inner) (takens rest), length-takens inner, length-takens rest)
+length-takens (branch kind x y rest) =
+    omega (arith, length-append (takens x) (takens y ++ takens rest), length-append (takens y) (takens rest), length-takens x, length-takens y, length-takens rest)
+
+-- A live position takes this, and is watched where w says so; the positions are counted from q.
+abbrev Fit : (ℕ → Bool) → ℕ → List Taken → Sites → Type 0
+Fit w q [] [] = Unit {0}
+Fit w q (a ∷ list) (None ∷ S) = Fit w (q + 1) list S
+Fit w q (a ∷ list) (Some s ∷ S) = (a ≡ taken_at s.head) × ((s.mark ≡ w q) × Fit w (q + 1) list S)
+Fit w q _ _ = ⊥
+
+fit_from : (w : ℕ → Bool) (q r : ℕ) (list : List Taken) (S : Sites) → q ≡ r → Fit w q list S → Fit w r list S
+fit_from w q r list S e f = subst (λ n. Fit w n list S) e f
+
+fit_append : (w : ℕ → Bool) (q r : ℕ) (a b : List Taken) (S T : Sites) → r ≡ q + length a → Fit w q a S → Fit w r b T → Fit w q (a ++ b) (S ++ T)
+fit_append w q r [] b [] T e f g = fit_from w r q b T (omega arith) g
+fit_append w q r [] b (s ∷ S) T e f g = absurd f
+fit_append w q r (x ∷ a) b [] T e f g = absurd f
+fit_append w q r (x ∷ a) b (None ∷ S) T e f g = fit_append w (q + 1) r a b S T (omega arith) f g
+fit_append w q r (x ∷ a) b (Some s ∷ S) T e f g = (f.0, (f.1.0, fit_append w (q + 1) r a b S T (omega arith) f.1.1 g))
+
+fit_dead : (w : ℕ → Bool) (q n : ℕ) (list : List Taken) → length list ≡ n → Fit w q list (replicate n None)
+fit_dead w q zero [] e = tt
+fit_dead w q zero (a ∷ list) e = absurd (omega arith)
+fit_dead w q (suc n) [] e = absurd (omega arith)
+fit_dead w q (suc n) (a ∷ list) e = fit_dead w (q + 1) n list (omega arith)
+
+module _ (cs : Callees) (w : ℕ → Bool) where
+  fit_rest : (q r : ℕ) (c : Code) → Fit w r (takens c) (replicate (size (marked w q c)) None)
+  fit_rest q r c = fit_dead w r (size (marked w q c)) (takens c) (length-takens c ∙ sym (size_marked w c q))
+
+  fit_plain : (ctx : List Label) (k : Node) (q : ℕ) (op : Instr) (M : Marked) (c : Code) (p : ℕ) (names : List Node)
+      → ((names' : List Node) → Fit w (q + 1) (takens c) (sites cs ctx k M (p + 1) names')) → Fit w (q + 1) (takens c) (replicate (size M) None)
+      → Fit w q (taken_by op ∷ takens c) (sites cs ctx k (plain (w q) op M) p names)
+  fit_plain ctx k q (instr.Br l) M c p names live dead = (refl, (refl, dead))
+  fit_plain ctx k q (instr.BrIf l) M c p names live dead = (refl, (refl, live _))
+  fit_plain ctx k q (instr.BrTable labels other) M c p names live dead = (refl, (refl, dead))
+  fit_plain ctx k q instr.Return M c p names live dead = (refl, (refl, dead))
+  fit_plain ctx k q instr.Unreachable M c p names live dead = (refl, (refl, dead))
+  fit_plain ctx k q op M c p names live dead = (refl, (refl, live _))
+
+  fit_code : (c : Code) (ctx : List Label) (k : Node) (q p : ℕ) (names : List Node) → Fit w q (takens c) (sites cs ctx k (marked w q c) p names)
+  fit_code done ctx k q p names = tt
+  fit_code (one op rest) ctx k q p names =
+      fit_plain ctx k q op (marked w (q + 1) rest) rest p names (λ names'. fit_code rest ctx k (q + 1) (p + 1) names') (fit_rest (q + 1) (q + 1) rest)
+  fit_code (block kind body rest) ctx k q p names =
+      let B = marked w (q + 1) body in let e = p + 1 + size B in (
+        refl,
+        (
+          refl,
+          fit_append w (q + 1) (q + 1 + count body) (takens body) (takens rest) _ _ (omega (arith, length-takens body))
+              (fit_code body (block_label p (arity kind) e ∷ ctx) (Join p) (q + 1) (p + 1) [])
+              (fit_code rest ctx k (q + 1 + count body) e (named (arity kind) (Join p) names)),
+        ),
+      )
+  fit_code (repeat kind body rest) ctx k q p names =
+      let B = marked w (q + 1) body in let e = p + 1 + size B in (
+        refl,
+        (
+          refl,
+          fit_append w (q + 1) (q + 1 + count body) (takens body) (takens rest) _ _ (omega (arith, length-takens body))
+              (fit_code body (loop_label p e ∷ ctx) (Join p) (q + 1) (p + 1) [])
+              (fit_code rest ctx k (q + 1 + count body) e (named (arity kind) (Join p) names)),
+        ),
+      )
+  fit_code (branch kind x y rest) ctx k q p names =
+      let X = marked w (q + 1) x in let Y = marked w (q + 1 + count x) y in let e = p + 1 + size X + size Y in (
+        refl,
+        (
+          refl,
+          fit_append w (q + 1) (q + 1 + count x) (takens x) (takens y ++ takens rest) _ _ (omega (arith, length-takens x))
+              (fit_code x (block_label p (arity kind) e ∷ ctx) (Join p) (q + 1) (p + 1) [])
+              (fit_append w (q + 1 + count x) (q + 1 + count x + count y) (takens y) (takens rest) _ _ (omega (arith, length-takens y))
+              (fit_code y (block_label p (arity kind) e ∷ ctx) (Join p) (q + 1 + count x) (p + 1 + size X) [])
+              (fit_code rest ctx k (q + 1 + count x + count y) e (named (arity kind) (Join p) (drop 1 names)))),
+        ),
+      )
+
+fit_at : (w : ℕ → Bool) (q : ℕ) (list : List Taken) (S : Sites) → Fit w q list S → (p : ℕ) (s : Site) → IsSite S p s
+    → (slice_get list p ≡ Some (taken_at s.head)) × (s.mark ≡ w (q + p))
+fit_at w q [] [] f p s is = absurd cc
+fit_at w q [] (t ∷ S) f p s is = absurd f
+fit_at w q (a ∷ list) [] f p s is = absurd f
+fit_at w q (a ∷ list) (None ∷ S) f zero s is = absurd cc
+fit_at w q (a ∷ list) (None ∷ S) f (suc p) s is = let r = fit_at w (q + 1) list S f p s is in (r.0, r.1 ∙ ap w (omega arith))
+fit_at w q (a ∷ list) (Some t ∷ S) f zero s is =
+    let same : t ≡ s = cc in
+    (ap Some f.0 ∙ ap (λ (z : Site). Some (taken_at z.head)) same, ap (λ (z : Site). z.mark) (sym same) ∙ (f.1.0 ∙ ap w (omega arith)))
+fit_at w q (a ∷ list) (Some t ∷ S) f (suc p) s is = let r = fit_at w (q + 1) list S f.1.1 p s is in (r.0, r.1 ∙ ap w (omega arith))
+
+-- what a live position of a body takes, and whether it is watched
+pub takes_at : (cs : Callees) (w : ℕ → Bool) (c : Code) (ctx : List Label) (k : Node) (p : ℕ) (s : Site) → IsSite (sites cs ctx k (marked w 0 c) 0 []) p s
+    → (slice_get (takens c) p ≡ Some (taken_at s.head)) × (s.mark ≡ w p)
+takes_at cs w c ctx k p s is =
+    let r = fit_at w 0 (takens c) (sites cs ctx k (marked w 0 c) 0 []) (fit_code cs w c ctx k 0 0 []) p s is in (r.0, r.1 ∙ ap w (omega arith))

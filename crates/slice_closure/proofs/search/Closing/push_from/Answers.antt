@@ -1,0 +1,16 @@
+use Rattle.std.proofs.Common.{sym, subst}
+use Rattle.worklist.specs.Gains.{Gains}
+use Rattle.slice_closure.specs.declared.items.Item.{Item}
+use Rattle.slice_closure.specs.Items.{Numbered}
+use Rattle.slice_closure.specs.Next.{Next}
+use Rattle.slice_closure.proofs.search.Closing.push_from.Goals as goal
+
+pub returns-in_ok-push_kept-in-Keeps : goal.returns-in_ok-push_kept-in-Keeps
+returns-in_ok-push_kept-in-Keeps c =
+    subst (λ (i : Item). Gains (Numbered c.args.self.now.numbering.nodes (Next c.args.self.now.tables i)) c.args.next.now.items c.push_kept.new.next.items)
+    (sym c.in-Keeps.is) c.in_ok-push_kept-in-Keeps.ensures
+
+pub returns-in_ok-push_before-in-Needs : goal.returns-in_ok-push_before-in-Needs
+returns-in_ok-push_before-in-Needs c =
+    subst (λ (i : Item). Gains (Numbered c.args.self.now.numbering.nodes (Next c.args.self.now.tables i)) c.args.next.now.items c.push_before.new.next.items)
+    (sym c.in-Needs.is) c.in_ok-push_before-in-Needs.ensures

@@ -1,0 +1,5 @@
+pub mod Takens
+pub mod Items
+pub mod Next
+pub mod NextLaws
+pub mod Made

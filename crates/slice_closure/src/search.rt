@@ -1,0 +1,275 @@
+//! The search for a kept set.
+
+ghost use Rattle.std.specs.Prelude.{◌≡◌, ◌+◌, ◌*◌, ◌^◌, ◌<◌, ◌≤◌, ◌||◌, ◌↔◌, ℕ, IfOk, IsTrue, Some, length, slice_get, true};
+ghost use Rattle.std.specs.List.{All, Contains};
+ghost use Rattle.worklist.specs.Gains.{Gains};
+ghost use Rattle.worklist.specs.Packed.{PackedEdge};
+ghost use Rattle.wasm_types.specs.Nodes.{At};
+ghost use Rattle.block_cfg.specs.Graph.{number, row_of};
+ghost use Rattle.stack_names.specs.Named.{of_node, operands_in};
+ghost use Rattle.wasm_types.specs.declared.module.Pos.{Pos};
+ghost use Rattle.wasm_types.specs.Reaching.{Writes};
+ghost use Rattle.flow_domain.specs.LocTables.{WritesIn, row_in};
+ghost use Rattle.slice_closure.specs.declared.items.Item.{Item};
+ghost use Rattle.slice_closure.specs.Items.{IsItem, Numbered, item_number, loc_number};
+ghost use Rattle.slice_closure.specs.Next as spec;
+ghost use Rattle.slice_closure.specs.NextLaws.{next_stays};
+
+use crate::items::{Item, Numbering};
+use crate::tables::Tables;
+use crate::taken::Taken;
+use block_cfg::point_number;
+use flow_domain::LocUse;
+use stack_names::Place;
+use wasm_types::{Loc, NoMemory, Node, Point, Pos};
+use worklist::Graph;
+
+/// The graph of the items, by the tables of a body.
+#[derive(Drop)]
+pub(crate) struct Closing<'a> {
+    pub(crate) tables: Tables<'a>,
+    pub(crate) numbering: Numbering,
+    /// By the number of a node whether it is a point.
+    pub(crate) points: &'a [bool],
+    ghost fits: { spec.Fits numbering.nodes numbering.locs tables },
+    ghost nodes: { numbering.nodes ≡ 2 * length tables.nest.now + 1 },
+    ghost pointed: { spec.AreMarked tables.cfg.now.points numbering.nodes points.now },
+}
+
+impl Closing<'_> {
+    pub(crate) fn push(&self, item: Item, next: &mut Vec<usize>) -> Result<(), NoMemory>
+        requires { IsItem self.now.numbering.nodes self.now.numbering.locs item }
+        ensures { IfOk result (λ _. Gains (Numbered self.now.numbering.nodes (λ j. j ≡ item)) next.old.items next.new.items) }
+    {
+        let number = self.numbering.number(item);
+        next.push(number).map_err(|_| NoMemory)?;
+        Ok(())
+    }
+
+    /// What makes the values in these places.
+    pub(crate) fn push_makers(
+        &self,
+        places: &[Place],
+        next: &mut Vec<usize>,
+    ) -> Result<(), NoMemory>
+        requires { All (λ place. number place.maker < self.now.numbering.nodes) places.now }
+        ensures { IfOk result (λ _. Gains (Numbered self.now.numbering.nodes (spec.FromEach places.now spec.Maker)) next.old.items next.new.items) }
+    {
+        for place in places {
+            self.push(Item::Keeps(place.maker), next)?;
+        }
+        Ok(())
+    }
+
+    fn push_nodes(&self, nodes: &[Node], next: &mut Vec<usize>) -> Result<(), NoMemory>
+        requires { All (λ node. number node < self.now.numbering.nodes) nodes.now }
+        ensures { IfOk result (λ _. Gains (Numbered self.now.numbering.nodes (spec.FromEach nodes.now spec.Joins)) next.old.items next.new.items) }
+    {
+        for node in nodes {
+            self.push(Item::Keeps(*node), next)?;
+        }
+        Ok(())
+    }
+
+    fn push_use(&self, pos: Pos, one: LocUse, next: &mut Vec<usize>) -> Result<(), NoMemory>
+        requires node { number (At pos.0) < self.now.numbering.nodes }
+        requires loc { loc_number one.loc < self.now.numbering.locs }
+        ensures { IfOk result (λ _. Gains (Numbered self.now.numbering.nodes (spec.Use pos.0 one)) next.old.items next.new.items) }
+    {
+        if one.reads || one.checks {
+            self.push(Item::Needs(one.loc, Node::At(pos)), next)?;
+        }
+        Ok(())
+    }
+
+    /// What a position reads and checks.
+    fn push_uses(&self, pos: Pos, next: &mut Vec<usize>) -> Result<(), NoMemory>
+        requires { number (At pos.0) < self.now.numbering.nodes }
+        ensures { IfOk result (λ _. Gains (Numbered self.now.numbering.nodes (spec.FromEach (row_in (slice_get self.now.tables.locs.now pos.0)) (spec.Use pos.0))) next.old.items next.new.items) }
+    {
+        for one in self.tables.locs.uses(pos.0 as usize) {
+            self.push_use(pos, *one, next)?;
+        }
+        Ok(())
+    }
+
+    /// The places of the operands that a position takes.
+    fn taken_places(&self, pos: Pos) -> &[Place]
+        ensures { result.now ≡ spec.taken_places self.now.tables pos.0 }
+    {
+        let places = self.tables.names.operands(pos);
+        match self.tables.taken.get(pos.0 as usize) {
+            Some(Taken::All) => places,
+            Some(Taken::Last) => &places[places.len().saturating_sub(1)..],
+            _ => &[],
+        }
+    }
+
+    /// What makes the operands that a position takes.
+    fn push_operands(&self, pos: Pos, next: &mut Vec<usize>) -> Result<(), NoMemory>
+        ensures { IfOk result (λ _. Gains (Numbered self.now.numbering.nodes (spec.FromEach (spec.taken_places self.now.tables pos.0) spec.Maker)) next.old.items next.new.items) }
+    {
+        self.push_makers(self.taken_places(pos), next)?;
+        Ok(())
+    }
+
+    /// What is directly around a position.
+    fn push_holder(&self, pos: Pos, next: &mut Vec<usize>) -> Result<(), NoMemory>
+        requires { number (At pos.0) < self.now.numbering.nodes }
+        ensures { IfOk result (λ _. Gains (Numbered self.now.numbering.nodes (spec.Holder self.now.tables pos.0)) next.old.items next.new.items) }
+    {
+        match self.tables.nest.around(pos) {
+            Some(block) => {
+                self.push(Item::Keeps(Node::At(block)), next)?;
+                Ok(())
+            }
+            None => Ok(()),
+        }
+    }
+
+    fn push_at(&self, pos: Pos, next: &mut Vec<usize>) -> Result<(), NoMemory>
+        requires { number (At pos.0) < self.now.numbering.nodes }
+        ensures { IfOk result (λ _. Gains (Numbered self.now.numbering.nodes (spec.NextAt self.now.tables (Node.At pos))) next.old.items next.new.items) }
+    {
+        self.push_operands(pos, next)?;
+        self.push_uses(pos, next)?;
+        self.push_holder(pos, next)?;
+        Ok(())
+    }
+
+    /// What is kept with a node by what it is.
+    fn push_near(&self, node: Node, next: &mut Vec<usize>) -> Result<(), NoMemory>
+        requires { number node < self.now.numbering.nodes }
+        ensures { IfOk result (λ _. Gains (Numbered self.now.numbering.nodes (spec.NextAt self.now.tables node)) next.old.items next.new.items) }
+    {
+        match node {
+            Node::At(pos) => {
+                self.push_at(pos, next)?;
+                Ok(())
+            }
+            Node::Join(pos) => {
+                self.push(Item::Keeps(Node::At(pos)), next)?;
+                Ok(())
+            }
+            Node::Exit => Ok(()),
+        }
+    }
+
+    /// Whether a point writes a location.
+    fn writes(&self, point: Point, loc: Loc) -> bool
+        ensures { IsTrue result ↔ Writes (WritesIn self.now.tables.locs.now) loc point }
+    {
+        match point {
+            Point::At(pos) => self.tables.locs.writes(pos, loc),
+            Point::Join(_) => false,
+            Point::Exit => false,
+        }
+    }
+
+    /// On to a point before one at which a location is needed.
+    fn passed(&self, loc: Loc, point: Point) -> Item
+        requires node { number point < self.now.numbering.nodes }
+        requires loc { loc_number loc < self.now.numbering.locs }
+        ensures exact { (j : Item) → spec.Passes self.now.tables loc point j ↔ (j ≡ result) }
+        ensures item { IsItem self.now.numbering.nodes self.now.numbering.locs result }
+    {
+        if self.writes(point, loc) {
+            Item::Keeps(point)
+        } else {
+            Item::Needs(loc, point)
+        }
+    }
+
+    fn push_earlier(&self, loc: Loc, point: Point, next: &mut Vec<usize>) -> Result<(), NoMemory>
+        requires node { number point < self.now.numbering.nodes }
+        requires loc { loc_number loc < self.now.numbering.locs }
+        ensures { IfOk result (λ _. Gains (Numbered self.now.numbering.nodes (spec.Passes self.now.tables loc point)) next.old.items next.new.items) }
+    {
+        let item = self.passed(loc, point);
+        self.push(item, next)?;
+        Ok(())
+    }
+
+    /// From a location that is needed at a point.
+    fn push_before(&self, loc: Loc, point: Point, next: &mut Vec<usize>) -> Result<(), NoMemory>
+        requires node { number point < self.now.numbering.nodes }
+        requires loc { loc_number loc < self.now.numbering.locs }
+        ensures { IfOk result (λ _. Gains (Numbered self.now.numbering.nodes (spec.Next self.now.tables (Item.Needs loc point))) next.old.items next.new.items) }
+    {
+        if !self.points[point_number(point)] {
+            return Ok(());
+        }
+        for earlier in self.tables.cfg.before(point) {
+            self.push_earlier(loc, *earlier, next)?;
+        }
+        Ok(())
+    }
+
+    /// From a kept node.
+    fn push_kept(&self, node: Node, next: &mut Vec<usize>) -> Result<(), NoMemory>
+        requires { number node < self.now.numbering.nodes }
+        ensures { IfOk result (λ _. Gains (Numbered self.now.numbering.nodes (spec.Next self.now.tables (Item.Keeps node))) next.old.items next.new.items) }
+    {
+        self.push_near(node, next)?;
+        self.push_nodes(self.tables.names.joined(node), next)?;
+        self.push_deciders(node, next)?;
+        Ok(())
+    }
+
+    fn push_decider(&self, decider: Option<Pos>, next: &mut Vec<usize>) -> Result<(), NoMemory>
+        requires { (p : Pos) → decider ≡ Some p → number (At p.0) < self.now.numbering.nodes }
+        ensures { IfOk result (λ _. Gains (Numbered self.now.numbering.nodes (spec.Decider decider)) next.old.items next.new.items) }
+    {
+        match decider {
+            Some(pos) => {
+                self.push(Item::Keeps(Node::At(pos)), next)?;
+                Ok(())
+            }
+            None => Ok(()),
+        }
+    }
+
+    /// The nearest deciders of a node.
+    fn push_deciders(&self, node: Node, next: &mut Vec<usize>) -> Result<(), NoMemory>
+        ensures { IfOk result (λ _. Gains (Numbered self.now.numbering.nodes (spec.NextDecider self.now.tables node)) next.old.items next.new.items) }
+    {
+        let nearest = self.tables.deciders.nearest(node);
+        self.push_decider(nearest.earlier, next)?;
+        self.push_decider(nearest.latest, next)?;
+        Ok(())
+    }
+
+    fn push_from(&self, item: Item, next: &mut Vec<usize>) -> Result<(), NoMemory>
+        requires { IsItem self.now.numbering.nodes self.now.numbering.locs item }
+        ensures { IfOk result (λ _. Gains (Numbered self.now.numbering.nodes (spec.Next self.now.tables item)) next.old.items next.new.items) }
+    {
+        match item {
+            Item::Keeps(node) => {
+                self.push_kept(node, next)?;
+                Ok(())
+            }
+            Item::Needs(loc, point) => {
+                self.push_before(loc, point, next)?;
+                Ok(())
+            }
+        }
+    }
+}
+
+impl Graph for Closing<'_> {
+    ghost node_count = { λ closing. (closing.numbering.locs + 1) * closing.numbering.nodes };
+
+    ghost leads = { λ closing. PackedEdge (IsItem closing.numbering.nodes closing.numbering.locs) (item_number closing.numbering.nodes) (spec.Next closing.tables) };
+
+    fn node_count(&self) -> usize {
+        self.numbering.count()
+    }
+
+    fn push_next(&self, node: usize, next: &mut Vec<usize>) -> Result<(), NoMemory> {
+        let item = self.numbering.item(node);
+        self.push_from(item, next)?;
+        Ok(())
+    }
+
+    ghost stays = { λ closing x y lt e. next_stays closing.numbering.nodes closing.numbering.locs closing.tables closing.fits x y e };
+}
