@@ -15,12 +15,12 @@ use Rattle.wasm_types.specs.Spaces.{func_types, local_types, IsOwnFunc, HasBody}
 use Rattle.wasm_types.specs.Typing.{Context}
 use Rattle.wasm_types.specs.Actions.{Callees, callees}
 use Rattle.wasm_types.specs.Locations.{OfCalls}
-use Rattle.wasm_types.specs.Nodes.{every}
 use Rattle.wasm_types.specs.Sites.{Site, Sites, IsSite, EndAt, body_sites, body_ends}
 use Rattle.wasm_types.specs.Reaching.{HeadReads, HeadChecks, WritesAt}
 use Rattle.wasm_types.specs.Places.{TypesPlaces}
 use Rattle.flow_domain.specs.Kept.{Kept, Tells}
 use Rattle.flow_domain.specs.Cut.{cut_body}
+use Rattle.flow_domain.specs.Presence.{IsNeeded}
 
 -- where the body of a function of this type stands
 abbrev pub context_of : Module → FuncType → Body → Context
@@ -64,9 +64,13 @@ KeptAt cs t b i n =
     let S = sites_at cs t b i in
     Kept cs (WritesAt cs no_calls S) (UsesAt cs no_calls S) S (ends_at cs t b i) n
 
--- the cut of a body, given the kept nodes and the types of the places. Every place is present
-abbrev pub cut_of : Callees → (Node → Bool) → (Node → ValType) → FuncType → Body → ℕ → Marked
-cut_of cs K T t b i = cut_body cs K every T (result_type t) (watched_once b i)
+-- the cut of a body, given the kept nodes, the present places and the types of the places
+abbrev pub cut_of : Callees → (K P : Node → Bool) → (Node → ValType) → FuncType → Body → ℕ → Marked
+cut_of cs K P T t b i = cut_body cs K P T (result_type t) (watched_once b i)
+
+-- a body with other code
+abbrev pub with_code : Marked → Body → Body
+with_code c b = record b { code = list_of (unmarked c) }
 
 -- one of the exports has the name
 abbrev pub HasExport : List Export → List ℕ → Type 0
@@ -94,7 +98,10 @@ pub record IsSliced (m : Module) (f i : ℕ) (name : Name) (new : Module) (at : 
   pub live : IsSite (sites_at (callees m) kind body i) i site
   pub kept : Node → Bool
   pub exact : Tells kept (KeptAt (callees m) kind body i)
+  -- the places that are needed, and no others
+  pub present : Node → Bool
+  pub needed : Tells present (IsNeeded (callees m) (sites_at (callees m) kind body i) (ends_at (callees m) kind body i) kept)
   pub types : Node → ValType
   pub typed : TypesPlaces (context_of m kind body) (sites_at (callees m) kind body i) types
-  pub is : new ≡ appended m type (record body { code = list_of (unmarked (cut_of (callees m) kept types kind body i)) }) name
-  pub at_is : at ≡ watched_at (cut_of (callees m) kept types kind body i)
+  pub is : new ≡ appended m type (with_code (cut_of (callees m) kept present types kind body i) body) name
+  pub at_is : at ≡ watched_at (cut_of (callees m) kept present types kind body i)

@@ -12,7 +12,7 @@ use Rattle.wasm_types.specs.Validity.{IsValid}
 use Rattle.wasm_types.specs.Actions.{Callees, callees, Callee, Task, NoTask, Acts, Asks, task_of, called_of}
 use Rattle.wasm_types.specs.Locations.{is_outer, TaskReads, TaskChecks, TaskWrites}
 use Rattle.wasm_types.specs.Funcs.{text}
-use Rattle.wasm_types.specs.Nodes.{At, every}
+use Rattle.wasm_types.specs.Nodes.{At}
 use Rattle.wasm_types.specs.Sites.{Head, DoHead, BlockHead, LoopHead, IfHead, BrHead, BrIfHead, BrTableHead, ReturnHead, UnreachableHead, Site, Sites, IsSite, EndAt, operand_count, from_at, to_next}
 use Rattle.wasm_types.specs.Reaching.{Table, Writes, writes_it, Path, edge, along, Enters, stands, steps, WritesAt, HeadReads, HeadChecks, HeadWrites}
 use Rattle.flow_domain.specs.Bounds.{Cover, Bounds, bounds, reads, checks, called, reads_of, checks_of, writes_of, writes_at, written_by}
@@ -202,10 +202,10 @@ slice_by m f i name new at sl silent cl = record {
   live = sl.live;
   kept = sl.kept;
   makers = sl.kept;
-  present = every;
+  present = sl.present;
   types = sl.types;
   rules = closed_kept (bounds m all_outer) (sites_at (callees m) sl.kind sl.body i) (ends_at (callees m) sl.kind sl.body i) sl.kept silent cl;
-  holds = λ n nd. refl;
+  holds = λ n nd. (sl.needed n).1 nd;
   exports = record { name = name; kind = export.Func; index = func_count m } ∷ [];
   only =
       All-cons (λ (e : Export). e.kind ≡ export.Func) (record { name = name; kind = export.Func; index = func_count m }) [] refl

@@ -283,7 +283,7 @@ module _ (m : Module) (type : ℕ) (F : FuncType) (b : Body) (name : Name) where
 
 -- ---- the slice
 
-type_at : (m : Module) (f type : ℕ) (F : FuncType) → IsOwnFunc m f type → slice_get m.types type ≡ Some F → type_of_func m f ≡ Some F
+pub type_at : (m : Module) (f type : ℕ) (F : FuncType) → IsOwnFunc m f type → slice_get m.types type ≡ Some F → type_of_func m f ≡ Some F
 type_at m f type F (le, at) is =
     let n : f ≡ length (imported func_import m.imports) + (f - import_count m) = omega arith in
     ap (type_numbered m.types) (ap (slice_get (func_types m)) n ∙ get_back (imported func_import m.imports) m.funcs (f - import_count m) ∙ at) ∙ is

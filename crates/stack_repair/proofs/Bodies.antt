@@ -1,5 +1,5 @@
 -- The cut of a body of a valid module without floats is a valid body of the same type.
-use Rattle.std.proofs.Common.{◌≡◌, ℕ, zero, suc, ◌+◌, ◌-◌, ◌≤◌, ◌<◌, List, [], ◌∷◌, ◌++◌, map, replicate, Bool, Option, Some, None, length, slice_get, refl, sym, ap, subst, arith, IfSome}
+use Rattle.std.proofs.Common.{◌≡◌, ℕ, zero, suc, ◌+◌, ◌-◌, ◌≤◌, ◌<◌, List, [], ◌∷◌, ◌++◌, map, replicate, Bool, true, false, not, ◌||◌, nat_lt, if◌then◌else◌, Option, Some, None, length, slice_get, refl, sym, ap, subst, arith, IfSome}
 use Rattle.std.specs.Prelude.{All}
 use Rattle.std.proofs.lemmas.List.Elements.{All-nil, All-append, All-replicate, All-head, All-tail}
 use Rattle.std.proofs.lemmas.Option.{slice_get_within}
@@ -17,7 +17,7 @@ use Rattle.wasm_types.specs.declared.module.Module.{Module}
 use Rattle.wasm_types.specs.declared.place.Part.TheVariants as part
 use Rattle.wasm_types.specs.Code.{Code, code_of, list_of}
 use Rattle.wasm_types.specs.Marked.{Marked, marked, unmarked, size}
-use Rattle.wasm_types.specs.Spaces.{type_of_func, func_types, imported, global_import, global_kind, run_types, local_types, HasBody}
+use Rattle.wasm_types.specs.Spaces.{type_of_func, func_types, imported, global_import, global_kind, run_types, local_types, HasBody, import_count, body_of}
 use Rattle.wasm_types.specs.Typing.{Context}
 use Rattle.wasm_types.specs.Validity.{values_of, Leads, IsValid}
 use Rattle.wasm_types.specs.Subset.{IsInteger, IsIntegerKind, IsIntegerCode, IsIntegerFunc, IsIntegerImport, HasNoFloat}
@@ -40,7 +40,7 @@ use Rattle.stack_repair.proofs.CutTyping.{label_body, cut_leads}
 use Rattle.stack_repair.proofs.Positions.{has_all, among_left, among_right, among_end, all_first}
 use Rattle.stack_repair.proofs.Needed.{shows_of}
 use Rattle.stack_repair.proofs.CodeBack.{code_back}
-use Rattle.stack_repair.proofs.PlaceTypes.{types_exist, one_cut}
+use Rattle.stack_repair.proofs.PlaceTypes.{types_exist, places_have_types, one_cut}
 use Rattle.stack_repair.proofs.Heights.{numbered_body, shaped_of}
 
 -- ---- lists
@@ -190,7 +190,7 @@ code_leads c t code w K P T k ty has =
 
 -- ---- the body's sites
 
-live_body : (c : Context) (n : ℕ) (d : Marked) (T : Node → ValType) → TypesPlaces c (body_sites (callees c.inside) n d) T → TypesLive c T d 0 []
+pub live_body : (c : Context) (n : ℕ) (d : Marked) (T : Node → ValType) → TypesPlaces c (body_sites (callees c.inside) n d) T → TypesLive c T d 0 []
 live_body c n d T ty = let S = body_sites (callees c.inside) n d in live_of c S T ty d (body_label n (size d) ∷ []) Exit 0 [] (has_all [] S 0 refl)
 
 -- what is known of a body of a valid module, and of its cut
@@ -229,6 +229,18 @@ one_cut_code m F b h w K P T T' ty ty' =
 
 pub cut_is_one : CutIsOne
 cut_is_one m F b h w K P T T' ty ty' = ap (λ z. record b { code = list_of (unmarked z) }) (one_cut_code m F b h w K P T T' ty ty')
+
+-- the types of its places
+pub types_of_body : (m : Module) (F : FuncType) (b : Body) (w : ℕ → Bool) → (T : Node → ValType) × TypesPlaces (context_of m F b) (sites_in m F w b) T
+types_of_body m F b w = places_have_types (context_of m F b) (length F.results) (watched_code w b)
+
+-- an own function's body stands among the bodies
+pub has_own_body : (m : Module) (f : ℕ) (b : Body) → import_count m ≤ f → body_of m f ≡ Some b → HasBody m f b
+has_own_body m f b le e = (le, go (nat_lt f (import_count m) || not (nat_lt f (length (func_types m)))) e)
+  where
+    go : (q : Bool) → (if q then None else slice_get m.bodies (f - import_count m)) ≡ Some b → slice_get m.bodies (f - import_count m) ≡ Some b
+    go true e = absurd cc
+    go false e = e
 
 -- ---- heights
 

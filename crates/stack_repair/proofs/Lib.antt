@@ -1,5 +1,4 @@
-pub mod FlatCut
-mod Positions
+pub mod Positions
 mod Live
 mod Counting
 mod Typed
@@ -13,3 +12,10 @@ mod Every
 mod Bytes
 pub mod Appended
 pub mod Slices
+pub mod Takings
+pub mod Takers
+pub mod Present
+pub mod ToldCut
+pub mod TakenTypes
+pub mod Steps
+pub mod ExactCut

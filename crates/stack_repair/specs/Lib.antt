@@ -1,2 +1,3 @@
-pub mod FlatCut
 pub mod Law
+pub mod Told
+pub mod Cuts
