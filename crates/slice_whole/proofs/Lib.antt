@@ -1,8 +1,7 @@
-mod SmallCode
-pub mod FlatSites
-pub mod FlatSlice
-pub mod FlatInteger
+pub mod LiveCalls
+pub mod Follows
 pub mod Made
 pub mod OneSliced
-pub mod Follows
-mod SliceSmall
+pub mod Refused
+pub mod SomeSets
+pub mod SomeSliced

@@ -1,16 +1,18 @@
--- What is proved of slices of flat modules.
+-- What is proved of slices.
 use Rattle.std.specs.Prelude.{ℕ, List}
 use Rattle.wasm_types.specs.declared.module.Name.{Name}
 use Rattle.wasm_types.specs.declared.module.Value.{Value}
 use Rattle.wasm_types.specs.declared.module.Module.{Module}
 use Rattle.wasm_types.specs.declared.run.Event.{Event}
-use Rattle.wasm_types.specs.Small.{IsSmall}
+use Rattle.wasm_types.specs.Validity.{IsValid}
+use Rattle.wasm_types.specs.Subset.{HasNoFloat}
+use Rattle.wasm_types.specs.Actions.{callees}
 use Rattle.wasm_meaning.specs.State.{State}
 use Rattle.wasm_meaning.specs.Fits.{Fits}
 use Rattle.wasm_meaning.specs.Invoke.{Returns}
-use Rattle.flow_domain.specs.Sliced.{func_count, IsSliced}
+use Rattle.flow_domain.specs.Sliced.{func_count, sites_at, IsSliced}
 use Rattle.flow_laws.specs.Slices.{ReturnsToo}
-use Rattle.slice_whole.specs.Flat.{IsFlat}
+use Rattle.slice_whole.specs.Slices.{HasCall}
 
 -- whenever function f of m returns, function g of `new` returns from the same start, after no more turns and with the same events
 abbrev pub Follows : (m : Module) (f i : ℕ) (new : Module) (g at : ℕ) → Type 0
@@ -19,10 +21,8 @@ Follows m f i new g at =
     → (n : ℕ) (results : List Value) (final : State) (events : List Event) → Returns m f i args s n results final events
     → ReturnsToo new g at args s n final events
 
--- The slice of a function of a flat module follows it.
+-- In a valid module without floats the slice of a function that calls nothing follows it.
 abbrev pub SliceFollows : Type 0
-SliceFollows = (m : Module) → IsFlat m → (f i : ℕ) (name : Name) (new : Module) (at : ℕ) → IsSliced m f i name new at → Follows m f i new (func_count m) at
-
--- The sliced module has the types and the four instructions of flat modules alone.
-abbrev pub SliceIsSmall : Type 0
-SliceIsSmall = (m : Module) → IsFlat m → (f i : ℕ) (name : Name) (new : Module) (at : ℕ) → IsSliced m f i name new at → IsSmall new
+SliceFollows =
+    (m : Module) → IsValid m → HasNoFloat m → (f i : ℕ) (name : Name) (new : Module) (at : ℕ) (s : IsSliced m f i name new at)
+    → (HasCall (sites_at (callees m) s.kind s.body i) → ⊥) → Follows m f i new (func_count m) at

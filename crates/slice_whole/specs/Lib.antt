@@ -1,3 +1,3 @@
-pub mod Flat
 pub mod Slices
+pub mod Calling
 pub mod Law

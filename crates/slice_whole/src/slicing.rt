@@ -1,22 +1,18 @@
-//! Slices of flat modules.
+//! Slices of functions that call nothing.
 
-ghost use Rattle.std.specs.Prelude.{◌≡◌, ◌+◌, ◌*◌, ◌^◌, ◌<◌, ◌≤◌, ◌↔◌, [], IfOk, IsTrue, length};
-ghost use Rattle.wasm_types.specs.declared.module.FuncType.{FuncType};
-ghost use Rattle.wasm_types.specs.Actions.{Callees};
+ghost use Rattle.std.specs.Prelude.{◌≡◌, ◌+◌, ◌*◌, ◌^◌, ◌<◌, ◌≤◌, IfOk, length};
 ghost use Rattle.wasm_types.specs.Canon.{canon};
-ghost use Rattle.wasm_types.specs.Code.{code_of, count};
-ghost use Rattle.wasm_types.specs.Small.{IsSmallCode};
+ghost use Rattle.wasm_types.specs.Subset.{IsSealed, WithinLimits, most_read};
 ghost use Rattle.wasm_types.specs.WellFormed.{IsWellFormed};
-ghost use Rattle.flow_domain.specs.Sliced.{appended};
-ghost use Rattle.stack_repair.specs.FlatCut.{IsTyped};
-ghost use Rattle.flow_domain.specs.Sliced.{HasExport};
+ghost use Rattle.flow_domain.specs.Sliced.{appended, func_count};
 ghost use Rattle.slice_whole.specs.declared.slicing.SliceRefusal.TheVariants as SliceRefusal;
-ghost use Rattle.slice_whole.specs.Flat.{IsFlat};
-ghost use Rattle.slice_whole.specs.Slices.{FindsNew, IsCutBody, IsShortFor, Slices};
+ghost use Rattle.slice_whole.specs.Slices.{FindsNew, IsShortFor, Slices, is_exported};
 
+use crate::calling::calls;
 use slice_closure::close;
 use sqlite_items::Items;
-use stack_repair::cut;
+use stack_names::names;
+use stack_repair::{CutBody, cut};
 use std::alloc::Global;
 use thiserror::Error;
 use wasm_types::{Body, Export, ExportKind, Module, Name, NoMemory, Pos, ValidModule};
@@ -35,13 +31,22 @@ pub enum SliceRefusal {
     /// No function has the number.
     #[error("no such function")]
     NoFunction,
+    /// The function is imported.
+    #[error("function {func} is imported")]
+    Imported { func: u32 },
     /// The body has only so many instructions.
     #[error("the body has {count} instructions")]
     NoInstruction { count: u32 },
+    /// The instruction is never reached.
+    #[error("the instruction is dead")]
+    Dead { at: Pos },
     /// An export has the name.
     #[error("the name is taken")]
     NameTaken,
-    /// Memory was refused.
+    /// The function calls, which isn't sliced yet.
+    #[error("not built yet")]
+    Unbuilt,
+    /// An allocation was refused.
     #[error("memory refused")]
     Memory,
 }
@@ -54,23 +59,17 @@ impl From<NoMemory> for SliceRefusal {
     }
 }
 
-/// A cut body, and where the watched instruction went.
-#[derive(Drop)]
-pub struct CutBody {
-    pub body: Body,
-    pub at: u32,
-}
-
-/// What is put into the module: a function of a type, and where the watched instruction stands in it.
+/// What is put into the module: a function of a type number, with this body, and where the watched instruction stands in it.
 #[derive(Drop)]
 pub struct NewFunc {
     pub kind: u32,
-    pub made: CutBody,
+    pub body: Body,
+    pub at: Pos,
 }
 
 /// Whether an export has the name.
 fn is_exported(exports: &[Export], name: &[u8]) -> bool
-    ensures { IsTrue result ↔ HasExport exports.now name.now }
+    ensures { result ≡ is_exported exports.now name.now }
 {
     for export in exports {
         if export.name.bytes.as_slice() == name {
@@ -78,28 +77,6 @@ fn is_exported(exports: &[Export], name: &[u8]) -> bool
         }
     }
     false
-}
-
-/// The cut of a flat body at a position.
-fn cut_body(alloc: Global, body: &Body, at: u32) -> Result<CutBody, NoMemory>
-    requires small { IsSmallCode (code_of body.now.code) }
-    requires typed { IsTyped (code_of body.now.code) }
-    requires few { count (code_of body.now.code) ≤ 100000 }
-    requires there { at < count (code_of body.now.code) }
-    ensures { IfOk result (λ made. (cs : Callees) (t : FuncType) → IsCutBody cs t body.now at made.body made.at) }
-{
-    let code = body.code.as_slice();
-    let kept = close(alloc, code, at as usize)?;
-    let made = cut(alloc, code, &kept, at as usize)?;
-    let locals = Items::from_slice(alloc, body.locals.as_slice())?;
-    let at = made.at as u32;
-    Ok(CutBody {
-        body: Body {
-            locals,
-            code: made.code,
-        },
-        at,
-    })
 }
 
 /// The module with one function more, of a type number and a body, which is exported by a name.
@@ -110,8 +87,7 @@ fn append(
     body: Body,
     name: &str,
 ) -> Result<Module, NoMemory>
-    requires functions { length given.funcs ≤ 10000 }
-    requires own { given.imports ≡ [] }
+    requires { func_count given < 2 ^ 32 }
     ensures { IfOk result (λ m. m ≡ appended given kind body (record { bytes = name.now })) }
 {
     let mut module = given;
@@ -130,33 +106,51 @@ fn append(
 /// The type number of the new function, its body, and where the watched instruction went; or the first refusal.
 fn new_func(
     alloc: Global,
-    given: &Module,
+    given: &ValidModule,
     func: u32,
-    at: u32,
+    at: Pos,
     name: &[u8],
 ) -> Result<NewFunc, SliceRefusal>
-    requires flat { IsFlat given.now }
-    ensures { FindsNew given.now func at name.now result }
+    ensures { FindsNew given.now func at.0 name.now result }
 {
-    let (Some(kind), Some(body)) = (
-        given.funcs.get(func as usize),
-        given.bodies.get(func as usize),
-    ) else {
+    let module = given.module();
+    let count = module.func_count();
+    if func >= count {
         return Err(SliceRefusal::NoFunction);
-    };
-    let count = body.count();
-    if at >= count {
-        return Err(SliceRefusal::NoInstruction { count });
     }
-    if is_exported(given.exports.as_slice(), name) {
+    let Some(body) = module.body(func) else {
+        return Err(SliceRefusal::Imported { func });
+    };
+    let positions = body.count();
+    if at.0 >= positions {
+        return Err(SliceRefusal::NoInstruction { count: positions });
+    }
+    let names = names(alloc, given, func)?;
+    if !names.live(at) {
+        return Err(SliceRefusal::Dead { at });
+    }
+    if is_exported(module.exports.as_slice(), name) {
         return Err(SliceRefusal::NameTaken);
     }
-    let made = cut_body(alloc, body, at)?;
-    Ok(NewFunc { kind: *kind, made })
+    if calls(body.code.as_slice()) {
+        return Err(SliceRefusal::Unbuilt);
+    }
+    let kept = close(alloc, given, func, at)?;
+    let CutBody { body, at } = cut(alloc, given, func, &names, &kept, at)?;
+    let own = func as usize + module.funcs.len() - count as usize;
+    let Some(kind) = module.funcs.get(own) else {
+        unreachable!()
+    };
+    Ok(NewFunc {
+        kind: *kind,
+        body,
+        at,
+    })
 }
 
-/// The sliced module of a flat module: one function more, the cut of function `func` at position `at`, which is exported as `name`. It refuses a number
-/// that no function has, a position that the body doesn't have, a name that an export has, and then only where an allocation is refused.
+/// The sliced module: one function more, the cut of own function `func` at position `at`, which is exported as `name`. It refuses a number that no own
+/// function has, a position that the body doesn't have or that is dead, a name that an export has, a function that calls, and then only where an allocation
+/// is refused.
 pub fn slice(
     alloc: Global,
     given: ValidModule,
@@ -164,23 +158,24 @@ pub fn slice(
     at: Pos,
     name: &str,
 ) -> Result<Sliced, SliceRefusal>
-    requires flat { IsFlat given }
+    requires limits { WithinLimits most_read given }
     requires short { length (canon given) < 2 ^ 28 }
     requires name { length name.now < 2 ^ 28 }
     ensures slices { Slices given func at.0 (record { bytes = name.now }) result }
 
     // The slice is short, and can be written.
     ensures body { IfOk result (λ made. IsShortFor given func made.module) }
+    ensures sealed { IfOk result (λ made. IsSealed made.module) }
     ensures well_formed { IfOk result (λ made. IsWellFormed made.module) }
     ensures length { IfOk result (λ made. length (canon made.module) ≤ 5 * length (canon given) + length name.now + 64) }
 {
+    let NewFunc { kind, body, at } = new_func(alloc, &given, func, at, name.as_bytes())?;
     let given = given.into_module();
-    let NewFunc { kind, made } = new_func(alloc, &given, func, at.0, name.as_bytes())?;
     let number = given.func_count();
-    let module = append(alloc, given, kind, made.body, name)?;
+    let module = append(alloc, given, kind, body, name)?;
     Ok(Sliced {
         module: ValidModule::seal(module),
         func: number,
-        at: Pos(made.at),
+        at,
     })
 }
