@@ -2,5 +2,5 @@ mod Runs
 mod TypedRuns
 mod RowsOfRuns
 mod Cuts
-mod Slices
+mod WorkedCuts
 mod Bodies
