@@ -1,4 +1,3 @@
 pub mod KeptLaws
-pub mod FlatCode
 pub mod Shapes
 pub mod LocLemmas

@@ -6,7 +6,6 @@ pub mod KeptSets
 pub mod Sliced
 pub mod Bounds
 pub mod Law
-pub mod Flat
 pub mod Rows
 pub mod Reach
 pub mod LocRows

@@ -2,13 +2,11 @@
 //! code, and of no run.
 #![tactic(auto)]
 
-mod flat;
 mod kept;
 mod laws;
 mod loc_table;
 mod plain_walk;
 
-pub use flat::{leaves_value, operand_count};
 pub use kept::Kept;
 pub use laws::{law_kept_is_closed, law_kept_is_least};
 pub use loc_table::{LocTable, LocUse};

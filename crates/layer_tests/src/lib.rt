@@ -5,6 +5,4 @@
 #[cfg(test)]
 mod modules;
 #[cfg(test)]
-mod reaching;
-#[cfg(test)]
 mod streams;

@@ -40,11 +40,14 @@ mark_more points i d N marks new lt long fits is so n below =
           let same : n ≡ x = number_injective n x e in
           let equal : node_eq n x ≡ true = ap (λ z. node_eq z x) same ∙ node_itself x in
           let here : number x < length marks = omega arith in
-          let set_here : get_or (set marks (number x) true) (number n) false ≡ true = ap (λ k. get_or (set marks (number x) true) k false) e ∙ get_or-set_same marks (number x) true false here in
-          (ap (λ l. get_or l (number n) false) is ∙ set_here) ∙ sym (split ∙ (ap (λ b. is_among n (take i points) || b) equal ∙ or_true (is_among n (take i points))))
+          let set_here : get_or (set marks (number x) true) (number n) false ≡ true = ap (λ k. get_or (set marks (number x) true) k false) e
+          ∙ get_or-set_same marks (number x) true false here in
+          (ap (λ l. get_or l (number n) false) is ∙ set_here) ∙ sym (split ∙ (ap (λ b. is_among n (take i points) || b) equal
+          ∙ or_true (is_among n (take i points))))
       | inr ne ↦
           let apart : node_eq n x ≡ false = elim (cases_Bool (node_eq n x)) [ inl on ↦ absurd (ne (ap number (same_node n x on))) | inr differs ↦ differs ] in
-          let other : get_or (set marks (number x) true) (number n) false ≡ get_or marks (number n) false = get_or-set_other marks (number x) (number n) true false ne in
+          let other : get_or (set marks (number x) true) (number n) false ≡ get_or marks (number n) false = get_or-set_other marks (number x)
+          (number n) true false ne in
           (ap (λ l. get_or l (number n) false) is ∙ (other ∙ so n below))
           ∙ sym (split ∙ (ap (λ b. is_among n (take i points) || b) apart ∙ or_false (is_among n (take i points))))
     ]
@@ -54,7 +57,8 @@ mark_more points i d N marks new lt long fits is so n below =
 pub roots_more : (list : List ℕ) (i d : ℕ) (roots new : List Root) → i < length list → roots ≡ map root_of (take i list)
     → new ≡ roots ++ root_of (get_or list i d) ∷ [] → new ≡ map root_of (take (i + 1) list)
 roots_more list i d roots new lt is pushed =
-    pushed ∙ (ap (λ rs. rs ++ root_of (get_or list i d) ∷ []) is ∙ (sym (push (take i list) (get_or list i d)) ∙ ap (map root_of) (sym (take_more list i d lt))))
+    pushed ∙ (ap (λ rs. rs ++ root_of (get_or list i d) ∷ []) is ∙ (sym (push (take i list) (get_or list i d))
+    ∙ ap (map root_of) (sym (take_more list i d lt))))
   where
     push : (xs : List ℕ) (x : ℕ) → map root_of (xs ++ x ∷ []) ≡ map root_of xs ++ root_of x ∷ []
     push [] x = refl

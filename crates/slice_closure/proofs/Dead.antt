@@ -22,7 +22,8 @@ use Rattle.slice_closure.proofs.Takes.{takes_at}
 use Rattle.slice_closure.proofs.Right.{same_some, same_type}
 
 -- what keeps anything is watched and live
-watched_first : (cs : Callees) (W U : Table) (S : Sites) (ends : List EndAt) (n : Node) → Kept cs W U S ends n → (p : ℕ) × ((s : Site) × (IsSite S p s × (s.mark ≡ true)))
+watched_first : (cs : Callees) (W U : Table) (S : Sites) (ends : List EndAt) (n : Node) → Kept cs W U S ends n
+    → (p : ℕ) × ((s : Site) × (IsSite S p s × (s.mark ≡ true)))
 watched_first cs W U S ends _ (criterion {p} s is mark) = (p, (s, (is, mark)))
 watched_first cs W U S ends n (criterion_operand p k s is mark lt e) = (p, (s, (is, mark)))
 watched_first cs W U S ends n (operand p k s kept is lt e) = watched_first cs W U S ends _ kept
@@ -59,6 +60,7 @@ dead_tells m f at names are dead K empty F b kind has n = (λ h. let off = empty
     no_kept kept =
         let S = sites_at (callees m) F b at in
         let w = watched_first (callees m) _ _ S _ n kept in
-        let mark = (takes_at (callees m) (nat_eq at) (code_of b.code) (body_label (length F.results) (size (watched_code (nat_eq at) b)) ∷ []) Exit w.0 w.1.0 w.1.1.0).1 in
+        let mark = (takes_at (callees m) (nat_eq at) (code_of b.code) (body_label (length F.results) (size (watched_code
+        (nat_eq at) b)) ∷ []) Exit w.0 w.1.0 w.1.1.0).1 in
         let same : at ≡ w.0 = eqb-true at w.0 (sym mark ∙ w.1.1.1) in
         no_site w.1.0 (subst (λ p. IsSite S p w.1.0) (sym same) w.1.1.0)

@@ -124,10 +124,12 @@ module _ (cs : Callees) (S : Sites) (ends : List EndAt) (T : Node → ValType) (
       subst Means (sym e) (criterion_operand at.0 o.0 r.live r.is_live mark_there o.1.0 o.1.1, r.name_points at.0 r.live r.is_live o.0 place.maker o.1.1))
       h
 
-  row_there : (p : ℕ) (s : Site) → IsSite S p s → (u : LocUse) → Contains (row_in (slice_get t.locs.now p)) u → (us : List LocUse) × (HasRow t.locs.now p us × Contains us u)
+  row_there : (p : ℕ) (s : Site) → IsSite S p s → (u : LocUse) → Contains (row_in (slice_get t.locs.now p)) u
+      → (us : List LocUse) × (HasRow t.locs.now p us × Contains us u)
   row_there p s is u has = let row = (r.plain.live p).1 (s, is) in (row.0, (row.1, subst (λ o. Contains (row_in o) u) row.1 has))
 
-  used_there : (p : ℕ) (s : Site) → IsSite S p s → (u : LocUse) → Contains (row_in (slice_get t.locs.now p)) u → (u.reads || u.checks) ≡ true → used cs S p u.loc
+  used_there : (p : ℕ) (s : Site) → IsSite S p s → (u : LocUse) → Contains (row_in (slice_get t.locs.now p)) u → (u.reads || u.checks) ≡ true
+      → used cs S p u.loc
   used_there p s is u has e =
       let row = row_there p s is u has in
       ⊎_elim

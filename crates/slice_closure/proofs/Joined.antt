@@ -277,7 +277,8 @@ arity_small : (kind : Option ValType) → arity kind ≤ 1
 arity_small None = omega arith
 arity_small (Some t) = omega arith
 
-length-made : (cs : Callees) (p : ℕ) (op : Instr) (names : List Node) → leaves cs op ≤ 1 → length (made cs p op names) ≡ leaves cs op + (length names - takes cs op)
+length-made : (cs : Callees) (p : ℕ) (op : Instr) (names : List Node) → leaves cs op ≤ 1
+    → length (made cs p op names) ≡ leaves cs op + (length names - takes cs op)
 length-made cs p op names le = length-named (leaves cs op) (node.At (record { 0 = p })) (drop (takes cs op) names) le
     ∙ ap (λ n. leaves cs op + n) (length-drop (takes cs op) names)
 
@@ -297,7 +298,8 @@ module _ (cs : Callees) (W : Instr → Type 0) where
   into (Do m op rest) ctx k p names t shape j x a =
       comes_more (sites cs ctx k rest (p + 1) (made cs p op names)) (sites cs ctx k (Do m op rest) p names) (all_ends cs k t rest (p + 1) (made cs p op names))
       (all_ends cs k t rest (p + 1) (made cs p op names)) j x (λ s b. inr b) (λ e b. b)
-      (into rest ctx k (p + 1) (made cs p op names) t (subst (λ n. Shaped cs W (arities ctx) t rest n) (sym (length-made cs p op names shape.2)) shape.3) j x a)
+      (into rest ctx k (p + 1) (made cs p op names) t (subst (λ n. Shaped cs W (arities ctx) t rest n) (sym
+      (length-made cs p op names shape.2)) shape.3) j x a)
   into (Block m kind body rest) ctx k p names t shape j x a =
       let e = p + 1 + size body in
       let inside = block_label p (arity kind) e ∷ ctx in
@@ -313,7 +315,8 @@ module _ (cs : Callees) (W : Instr → Type 0) where
       (ends_in A B C D) (into body inside (Join p) (p + 1) [] (arity kind) shape.0 j x b))
       (λ b. comes_more T (sites cs ctx k (Block m kind body rest) p names) (A ++ D) (A ++ (B ++ (C ++ D))) j x (λ s q. inr (among_right S T (Some s) q))
       (ends_past A B C D)
-      (into rest ctx k e after t (subst (λ n. Shaped cs W (arities ctx) t rest n) (sym (length-named (arity kind) (Join p) names (arity_small kind))) shape.1) j x b))
+      (into rest ctx k e after t (subst (λ n. Shaped cs W (arities ctx) t rest n) (sym (length-named (arity kind) (Join p) names
+      (arity_small kind))) shape.1) j x b))
       (among_pair (joinings cs inside (Join p) body (p + 1) []) (joinings cs ctx k rest e after) j x a)
   into (Loop m kind body rest) ctx k p names t shape j x a =
       let e = p + 1 + size body in
@@ -330,7 +333,8 @@ module _ (cs : Callees) (W : Instr → Type 0) where
       (ends_in A B C D) (into body inside (Join p) (p + 1) [] (arity kind) shape.0 j x b))
       (λ b. comes_more T (sites cs ctx k (Loop m kind body rest) p names) (A ++ D) (A ++ (B ++ (C ++ D))) j x (λ s q. inr (among_right S T (Some s) q))
       (ends_past A B C D)
-      (into rest ctx k e after t (subst (λ n. Shaped cs W (arities ctx) t rest n) (sym (length-named (arity kind) (Join p) names (arity_small kind))) shape.1) j x b))
+      (into rest ctx k e after t (subst (λ n. Shaped cs W (arities ctx) t rest n) (sym (length-named (arity kind) (Join p) names
+      (arity_small kind))) shape.1) j x b))
       (among_pair (joinings cs inside (Join p) body (p + 1) []) (joinings cs ctx k rest e after) j x a)
   into (If m kind y z rest) ctx k p names t shape j x a =
       let f = p + 1 + size y in
@@ -398,7 +402,8 @@ module _ (cs : Callees) (W : Instr → Type 0) where
       h
   back (Do m op rest) ctx k p names t shape j x h = ⊎_elim
       (λ b. absurd b.branch)
-      (λ b. back rest ctx k (p + 1) (made cs p op names) t (subst (λ n. Shaped cs W (arities ctx) t rest n) (sym (length-made cs p op names shape.2)) shape.3) j x b)
+      (λ b. back rest ctx k (p + 1) (made cs p op names) t (subst (λ n. Shaped cs W (arities ctx) t rest n) (sym
+      (length-made cs p op names shape.2)) shape.3) j x b)
       (comes_first _ (sites cs ctx k rest (p + 1) (made cs p op names)) (all_ends cs k t rest (p + 1) (made cs p op names)) j x h)
   back (Block m kind body rest) ctx k p names t shape j x h =
       let e = p + 1 + size body in
@@ -417,7 +422,8 @@ module _ (cs : Callees) (W : Instr → Type 0) where
       (λ r. ⊎_elim
       (λ b. among_left J K (j, x) (back body inside (Join p) (p + 1) [] (arity kind) shape.0 j x b))
       (λ b. among_right J K (j, x)
-      (back rest ctx k e after t (subst (λ n. Shaped cs W (arities ctx) t rest n) (sym (length-named (arity kind) (Join p) names (arity_small kind))) shape.1) j x b))
+      (back rest ctx k e after t (subst (λ n. Shaped cs W (arities ctx) t rest n) (sym (length-named (arity kind) (Join p) names
+      (arity_small kind))) shape.1) j x b))
       (comes_split (S ++ T) S T (A ++ (B ++ (C ++ D))) (B ++ C) (A ++ D) j x (λ s q. among_cases S T (Some s) q) (ends_apart A B C D) r))
       (comes_first _ (S ++ T) (A ++ (B ++ (C ++ D))) j x h)
   back (Loop m kind body rest) ctx k p names t shape j x h =
@@ -437,7 +443,8 @@ module _ (cs : Callees) (W : Instr → Type 0) where
       (λ r. ⊎_elim
       (λ b. among_left J K (j, x) (back body inside (Join p) (p + 1) [] (arity kind) shape.0 j x b))
       (λ b. among_right J K (j, x)
-      (back rest ctx k e after t (subst (λ n. Shaped cs W (arities ctx) t rest n) (sym (length-named (arity kind) (Join p) names (arity_small kind))) shape.1) j x b))
+      (back rest ctx k e after t (subst (λ n. Shaped cs W (arities ctx) t rest n) (sym (length-named (arity kind) (Join p) names
+      (arity_small kind))) shape.1) j x b))
       (comes_split (S ++ T) S T (A ++ (B ++ (C ++ D))) (B ++ C) (A ++ D) j x (λ s q. among_cases S T (Some s) q) (ends_apart A B C D) r))
       (comes_first _ (S ++ T) (A ++ (B ++ (C ++ D))) j x h)
   back (If m kind y z rest) ctx k p names t shape j x h =
@@ -470,14 +477,16 @@ module _ (cs : Callees) (W : Instr → Type 0) where
       (comes_split (S' ++ T) S' T ((B' ++ C') ++ (A ++ D)) (B' ++ C') (A ++ D) j x (λ s o. among_cases S' T (Some s) o)
       (λ o w. among_cases (B' ++ C') (A ++ D) o w) q)))
       (comes_split (S ++ (S' ++ T)) S (S' ++ T) all (B ++ C) ((B' ++ C') ++ (A ++ D)) j x (λ s o. among_cases S (S' ++ T) (Some s) o)
-      (λ o w. ⊎_elim inl (λ v. inr (⊎_elim (λ u. among_left (B' ++ C') (A ++ D) o u) (λ u. among_right (B' ++ C') (A ++ D) o u) v)) (arms_apart A B B' C C' D o w))
+      (λ o w. ⊎_elim inl (λ v. inr (⊎_elim (λ u. among_left (B' ++ C') (A ++ D) o u) (λ u. among_right (B' ++ C') (A ++ D) o u) v))
+      (arms_apart A B B' C C' D o w))
       r))
       (comes_first _ (S ++ (S' ++ T)) all j x h)
   back (Br m l rest) ctx k p names t shape j x h = ⊎_elim
       (λ b.
       let one : b.label ≡ l = b.branch in
       let lt : b.index < carried (arities ctx) l = rw one at b.within in
-      has_joining (join_of ctx l) (take (carried (arities ctx) l) names) j x b.index (rw one at b.goal) (take_get (carried (arities ctx) l) names b.index x lt b.is))
+      has_joining (join_of ctx l) (take (carried (arities ctx) l) names) j x b.index (rw one at b.goal) (take_get (carried
+      (arities ctx) l) names b.index x lt b.is))
       (λ b. absurd (nothing_comes (size rest) j x b))
       (comes_first _ (replicate (size rest) None) [] j x h)
   back (BrIf m l rest) ctx k p names t shape j x h =
@@ -507,7 +516,8 @@ module _ (cs : Callees) (W : Instr → Type 0) where
       let l = outermost (arities ctx) in
       let one : b.label ≡ l = b.branch in
       let lt : b.index < carried (arities ctx) l = rw one at b.within in
-      has_joining (join_of ctx l) (take (carried (arities ctx) l) names) j x b.index (rw one at b.goal) (take_get (carried (arities ctx) l) names b.index x lt b.is))
+      has_joining (join_of ctx l) (take (carried (arities ctx) l) names) j x b.index (rw one at b.goal) (take_get (carried
+      (arities ctx) l) names b.index x lt b.is))
       (λ b. absurd (nothing_comes (size rest) j x b))
       (comes_first _ (replicate (size rest) None) [] j x h)
   back (Unreachable m rest) ctx k p names t shape j x h = ⊎_elim

@@ -144,11 +144,13 @@ module _ (cs : Callees) (S : Sites) where
       (joining (join_of ctx l) (take (carried (arities ctx) l) (drop 1 names)) ++ joinings cs ctx k rest (p + 1) (drop 1 names)) n
       (good_joins S (sites cs ctx k rest (p + 1) (drop 1 names)) (joining (join_of ctx l) (take (carried (arities ctx) l) (drop 1 names)))
       (joinings cs ctx k rest (p + 1) (drop 1 names))
-      (joining_points S (join_of ctx l) (take (carried (arities ctx) l) (drop 1 names)) (points_take S (carried (arities ctx) l) (drop 1 names) (points_drop S 1 names n)))
+      (joining_points S (join_of ctx l) (take (carried (arities ctx) l) (drop 1 names)) (points_take S (carried (arities ctx) l) (drop 1 names)
+      (points_drop S 1 names n)))
       (good rest ctx k (p + 1) (drop 1 names) h.1 (points_drop S 1 names n)))
   good (BrTable m labels other rest) ctx k p names h n =
       good_ends S _ (size rest) (joinings cs ctx k (BrTable m labels other rest) p names) n
-      (each_points S _ (take (carried (arities ctx) other) (drop 1 names)) (points_take S (carried (arities ctx) other) (drop 1 names) (points_drop S 1 names n)))
+      (each_points S _ (take (carried (arities ctx) other) (drop 1 names)) (points_take S (carried (arities ctx) other) (drop 1 names)
+      (points_drop S 1 names n)))
   good (Return m rest) ctx k p names h n =
       let l = outermost (arities ctx) in
       good_ends S _ (size rest) (joining (join_of ctx l) (take (carried (arities ctx) l) names)) n

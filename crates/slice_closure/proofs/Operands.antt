@@ -29,7 +29,8 @@ last_one ys y =
 
 module _ (T : Node → ValType) where
   -- the first so many names as places
-  placed_has : (n : ℕ) (names : List Node) (place : Place) → Contains (placed T (take n names)) place → (k : ℕ) × ((k < n) × (slice_get names k ≡ Some place.maker))
+  placed_has : (n : ℕ) (names : List Node) (place : Place) → Contains (placed T (take n names)) place
+      → (k : ℕ) × ((k < n) × (slice_get names k ≡ Some place.maker))
   placed_has zero names place h = absurd (none_there place h)
   placed_has (suc n) [] place h = absurd (none_there place h)
   placed_has (suc n) (x ∷ names) place h =
@@ -62,7 +63,8 @@ module _ (T : Node → ValType) where
       let e : drop (length (placed T (take (suc n) (x ∷ names))) - 1) (placed T (take (suc n) (x ∷ names))) ≡ place_of T x ∷ [] =
       ap (λ (zs : List Place). drop (length zs - 1) zs) (reversed (place_of T x) (map (place_of T) (take n names))) ∙ last_one rest (place_of T x) in
       let one : Contains ([] ++ place_of T x ∷ []) place = subst (λ zs. Contains zs place) e h in
-      ⊎_elim (λ none. absurd (none_there place none)) (λ is. (0, (omega arith, ap (λ (z : Place). Some z.maker) is))) (Contains-push_cases [] (place_of T x) place one)
+      ⊎_elim (λ none. absurd (none_there place none)) (λ is. (0, (omega arith, ap (λ (z : Place). Some z.maker) is))) (Contains-push_cases []
+      (place_of T x) place one)
 
   has_last : (n : ℕ) (names : List Node) (x : Node) (k : ℕ) → k < 1 → slice_get names k ≡ Some x
       → Contains (drop (length (placed T (take (suc n) names)) - 1) (placed T (take (suc n) names))) (place_of T x)
@@ -73,7 +75,8 @@ module _ (T : Node → ValType) where
       let rest = reverse (map (place_of T) (take n names)) in
       let list : drop (length (placed T (take (suc n) (y ∷ names))) - 1) (placed T (take (suc n) (y ∷ names))) ≡ place_of T y ∷ [] =
       ap (λ (zs : List Place). drop (length zs - 1) zs) (reversed (place_of T y) (map (place_of T) (take n names))) ∙ last_one rest (place_of T y) in
-      subst (λ zs. Contains zs (place_of T x)) (sym list) (subst (λ z. Contains ([] ++ place_of T z ∷ []) (place_of T x)) (sym same) (Contains-push [] (place_of T x)))
+      subst (λ zs. Contains zs (place_of T x)) (sym list) (subst (λ z. Contains ([] ++ place_of T z ∷ []) (place_of T x)) (sym same)
+      (Contains-push [] (place_of T x)))
 
   module _ (cs : Callees) where
     head_has : (h : Head) (ctx : List Label) (names : List Node) (place : Place)

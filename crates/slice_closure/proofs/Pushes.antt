@@ -39,7 +39,10 @@ numbered_one N i k xs ys is pushed = rw pushed (gains_same (λ y. y ≡ k) (Numb
 
 pub numbered_same : (N : ℕ) (P Q : Item → Type 0) (xs ys : List ℕ) → ((j : Item) → P j → Q j) → ((j : Item) → Q j → P j) → Gains (Numbered N P) xs ys
     → Gains (Numbered N Q) xs ys
-numbered_same N P Q xs ys to from g = gains_same (Numbered N P) (Numbered N Q) xs ys (λ y (j, (p, e)). (j, (to j p, e))) (λ y (j, (q, e)). (j, (from j q, e))) g
+numbered_same N P Q xs ys to from g = gains_same (Numbered N P) (Numbered N Q) xs ys (λ y (j, (p, e)). (j, (to j p, e))) (λ y (j, (q, e)). (
+  j,
+  (from j q, e),
+)) g
 
 -- one rule after the other
 pub numbered_both : (N : ℕ) (P Q : Item → Type 0) (xs ys zs : List ℕ) → Gains (Numbered N P) xs ys → Gains (Numbered N Q) ys zs

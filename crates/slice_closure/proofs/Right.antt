@@ -116,11 +116,14 @@ module _ (m : Module) (f : ℕ) (at : Pos) (t : Tables) (made : AreMade m f at t
         leads = g.stays;
         plain = made.plain cs results w;
         watched = λ p s is. (takes_at cs w (code_of body.code) (body_label results (size code) ∷ []) Exit p s is).1;
-        taken = λ p s is. ap (λ (ts : List Taken). slice_get ts p) made.taken ∙ (takes_at cs w (code_of body.code) (body_label results (size code) ∷ []) Exit p s is).0;
+        taken = λ p s is. ap (λ (ts : List Taken). slice_get ts p) made.taken
+            ∙ (takes_at cs w (code_of body.code) (body_label results (size code) ∷ []) Exit p s is).0;
         positions = positions_are;
-        joined = λ j x. subst (λ (xs : List Node). Contains xs x ↔ Comes S ends j x) (sym (joined_are j)) (joined_comes cs (HasTypes (context_of m made.names.kind body)) results code made.shaped j x);
+        joined = λ j x. subst (λ (xs : List Node). Contains xs x ↔ Comes S ends j x) (sym (joined_are j)) (joined_comes cs (HasTypes
+            (context_of m made.names.kind body)) results code made.shaped j x);
         name_points = λ p s is k x e. name_point cs results code p s is k x e;
-        joined_points = λ j x has. joined_point cs results code j x (among_of (joined_of cs results code j) x (subst (λ (xs : List Node). Contains xs x) (joined_are j) has));
+        joined_points = λ j x has. joined_point cs results code j x (among_of (joined_of cs results code j) x (subst (λ
+            (xs : List Node). Contains xs x) (joined_are j) has));
         nest = made.nest;
         earlier = near.earlier;
         latest = near.latest;

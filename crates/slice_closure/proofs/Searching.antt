@@ -97,7 +97,8 @@ module _ (N L : ℕ) (t : Tables) (at : Pos) (fits : Fits N L t) (fit : number (
 
       first_in : (x : ℕ) → Begins x → IsRootOf roots 0 x
       first_in x (j, (e, first)) =
-          contains_of roots (root_of x) (subst (λ (rs : List Root). Among rs (root_of x)) (sym is) (roots_have list x (among_of list x (gained.all x (j, (first, e))))))
+          contains_of roots (root_of x) (subst (λ (rs : List Root). Among rs (root_of x)) (sym is) (roots_have list x (among_of list x (gained.all x
+          (j, (first, e))))))
 
 pub rows_enough : (L N : ℕ) → N ≤ (L + 1) * N
 rows_enough L N = omega (arith, mul-le-mul_right N (let le : 1 ≤ L + 1 = omega arith in le))

@@ -25,8 +25,11 @@ get-past (y ∷ pre) x xs = get-past pre x xs
 
 pub has_all : (pre xs : Sites) (p : ℕ) → p ≡ length pre → HasAt (pre ++ xs) p xs
 has_all pre [] p e = tt
-has_all pre (x ∷ xs) p e =
-    (rw (e, get-past), subst (λ S. HasAt S (p + 1) xs) (append_assoc pre (x ∷ []) xs) (has_all (pre ++ x ∷ []) xs (p + 1) (omega (arith, length-append pre (x ∷ [])))))
+has_all pre (x ∷ xs) p e = (
+  rw (e, get-past),
+  subst (λ S. HasAt S (p + 1) xs) (append_assoc pre (x ∷ []) xs) (has_all (pre ++ x ∷ []) xs (p + 1) (omega
+      (arith, length-append pre (x ∷ [])))),
+)
 
 length-nones : (n : ℕ) → length (replicate {A = Option Site} n None) ≡ n
 length-nones zero = refl
@@ -38,18 +41,31 @@ length-sites cs (Do m op rest) ctx k p names = omega (arith, length-sites cs res
 length-sites cs (Block m r body rest) ctx k p names =
     let a = length-sites cs body (block_label p (arity r) (p + 1 + size body) ∷ ctx) (Join p) (p + 1) [] in
     let b = length-sites cs rest ctx k (p + 1 + size body) (named (arity r) (Join p) names) in
-    omega (arith, length-append (sites cs (block_label p (arity r) (p + 1 + size body) ∷ ctx) (Join p) body (p + 1) []) (sites cs ctx k rest (p + 1 + size body) (named (arity r) (Join p) names)))
+    omega (
+      arith,
+      length-append (sites cs (block_label p (arity r) (p + 1 + size body) ∷ ctx) (Join p) body (p + 1) []) (sites cs ctx k rest
+          (p + 1 + size body) (named (arity r) (Join p) names)),
+    )
 length-sites cs (Loop m r body rest) ctx k p names =
     let a = length-sites cs body (loop_label p (p + 1 + size body) ∷ ctx) (Join p) (p + 1) [] in
     let b = length-sites cs rest ctx k (p + 1 + size body) (named (arity r) (Join p) names) in
-    omega (arith, length-append (sites cs (loop_label p (p + 1 + size body) ∷ ctx) (Join p) body (p + 1) []) (sites cs ctx k rest (p + 1 + size body) (named (arity r) (Join p) names)))
+    omega (
+      arith,
+      length-append (sites cs (loop_label p (p + 1 + size body) ∷ ctx) (Join p) body (p + 1) []) (sites cs ctx k rest
+          (p + 1 + size body) (named (arity r) (Join p) names)),
+    )
 length-sites cs (If m r x y rest) ctx k p names =
     let e = p + 1 + size x + size y in
     let L = block_label p (arity r) e in
     let a = length-sites cs x (L ∷ ctx) (Join p) (p + 1) [] in
     let b = length-sites cs y (L ∷ ctx) (Join p) (p + 1 + size x) [] in
     let c = length-sites cs rest ctx k e (named (arity r) (Join p) (drop 1 names)) in
-    omega (arith, length-append (sites cs (L ∷ ctx) (Join p) x (p + 1) []) (sites cs (L ∷ ctx) (Join p) y (p + 1 + size x) [] ++ sites cs ctx k rest e (named (arity r) (Join p) (drop 1 names))), length-append (sites cs (L ∷ ctx) (Join p) y (p + 1 + size x) []) (sites cs ctx k rest e (named (arity r) (Join p) (drop 1 names))))
+    omega (
+      arith,
+      length-append (sites cs (L ∷ ctx) (Join p) x (p + 1) []) (sites cs (L ∷ ctx) (Join p) y
+          (p + 1 + size x) [] ++ sites cs ctx k rest e (named (arity r) (Join p) (drop 1 names))),
+      length-append (sites cs (L ∷ ctx) (Join p) y (p + 1 + size x) []) (sites cs ctx k rest e (named (arity r) (Join p) (drop 1 names))),
+    )
 length-sites cs (Br m l rest) ctx k p names = omega (arith, length-nones (size rest))
 length-sites cs (BrIf m l rest) ctx k p names = omega (arith, length-sites cs rest ctx k (p + 1) (drop 1 names))
 length-sites cs (BrTable m labels other rest) ctx k p names = omega (arith, length-nones (size rest))

@@ -81,7 +81,15 @@ length-takens (one op rest) = omega (arith, length-takens rest)
 length-takens (block kind inner rest) = omega (arith, length-append (takens inner) (takens rest), length-takens inner, length-takens rest)
 length-takens (repeat kind inner rest) = omega (arith, length-append (takens inner) (takens rest), length-takens inner, length-takens rest)
 length-takens (branch kind x y rest) =
-    omega (arith, length-append (takens x) (takens y ++ takens rest), length-append (takens y) (takens rest), length-takens x, length-takens y, length-takens rest)
+    omega (
+      arith,
+      length-append (takens x) (takens y ++ takens rest),
+      length-append (takens y)
+          (takens rest),
+      length-takens x,
+      length-takens y,
+      length-takens rest,
+    )
 
 -- A live position takes this, and is watched where w says so; the positions are counted from q.
 abbrev Fit : (ℕ → Bool) → ℕ → List Taken → Sites → Type 0

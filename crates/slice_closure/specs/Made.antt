@@ -19,7 +19,8 @@ use Rattle.slice_closure.specs.Takens.{takens}
 pub record AreMade (m : Module) (f : ℕ) (at : Pos) (t : Tables) : Type 0 where
   pub names : AreNames m f (nat_eq at.0) t.names.now
   pub same : names.body ≡ t.body.now
-  pub shaped : Shaped (callees m) (HasTypes (context_of m names.kind t.body.now)) (length names.kind.results ∷ []) (length names.kind.results) (watched_code (nat_eq at.0) t.body.now) 0
+  pub shaped : Shaped (callees m) (HasTypes (context_of m names.kind t.body.now)) (length names.kind.results ∷ []) (length names.kind.results)
+      (watched_code (nat_eq at.0) t.body.now) 0
   pub cfg : IsCfgOf t.body.now t.cfg.now
   pub plain : (cs : Callees) (results : ℕ) (w : ℕ → Bool) → IsPlainTable cs (body_sites cs results (watched_code w t.body.now)) t.locs.now
   pub nest : IsNestOf t.body.now t.nest.now

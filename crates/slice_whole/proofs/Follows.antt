@@ -1,5 +1,5 @@
 -- Slices follow their originals, where nothing is called: their kept sets are closed.
-use Rattle.std.proofs.Common.{ℕ, length, [], ◌∷◌}
+use Rattle.std.proofs.Common.{length, [], ◌∷◌}
 use Rattle.wasm_types.specs.declared.module.Module.{Module}
 use Rattle.wasm_types.specs.Validity.{IsValid}
 use Rattle.wasm_types.specs.Subset.{HasNoFloat}

@@ -5,12 +5,12 @@ use Rattle.wasm_types.specs.declared.place.Node.TheVariants.{Exit}
 use Rattle.wasm_types.specs.declared.instr.Instr.{Instr}
 use Rattle.wasm_types.specs.declared.instr.Instr as instr
 use Rattle.wasm_types.specs.declared.instr.Instr.TheVariants as v
-use Rattle.wasm_types.specs.Code.{Code, done, one, block, repeat, branch, onto, code_of_row, code_of, count, is_plain}
+use Rattle.wasm_types.specs.Code.{Code, done, one, block, repeat, branch, onto, code_of_row, count, is_plain}
 use Rattle.wasm_types.specs.Marked.{marked, size}
-use Rattle.wasm_types.specs.Actions.{Callees, takes, task_of, called_of}
-use Rattle.wasm_types.specs.Nodes.{At, Join, named, made}
+use Rattle.wasm_types.specs.Actions.{Callees, task_of, called_of}
+use Rattle.wasm_types.specs.Nodes.{Join, named, made}
 use Rattle.wasm_types.specs.Labels.{arity, Label, block_label, loop_label}
-use Rattle.wasm_types.specs.Sites.{DoHead, Site, Sites, IsSite, sites, body_sites, Among}
+use Rattle.wasm_types.specs.Sites.{DoHead, Site, Sites, sites, body_sites, Among}
 use Rattle.wasm_types.proofs.CodeLemmas.{onto-block, onto-loop, onto-if, onto-one}
 use Rattle.stack_names.specs.Found.{goes_on}
 use Rattle.flow_laws.specs.CallFree.{CallsNothing}

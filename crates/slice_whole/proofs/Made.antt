@@ -13,8 +13,7 @@ use Rattle.wasm_types.specs.Spaces.{import_count, imported, func_import, HasBody
 use Rattle.wasm_types.specs.Subset.{InSubset, IsSealed, WithinLimits, most_read, HasNoFloat}
 use Rattle.wasm_types.specs.Validity.{IsValid}
 use Rattle.wasm_types.specs.WellFormed.{IsU8, ProperName}
-use Rattle.wasm_types.specs.Actions.{callees}
-use Rattle.flow_domain.specs.Sliced.{func_count, context_of, sites_at, appended, HasExport, IsSliced}
+use Rattle.flow_domain.specs.Sliced.{func_count, appended, HasExport, IsSliced}
 use Rattle.stack_repair.proofs.Appended.{own_body, type_at, body_is_short, slice_is_short, slice_is_sealed}
 use Rattle.stack_repair.proofs.ExactCut.{needed_told}
 use Rattle.stack_repair.proofs.Bodies.{types_of_body}

@@ -1,5 +1,5 @@
 -- The causes against a slice, one after another.
-use Rattle.std.proofs.Common.{inl, inr, ◌≡◌, ℕ, zero, suc, ◌+◌, ◌-◌, ◌≤◌, ◌<◌, ◌^◌, List, [], ◌∷◌, ◌++◌, Bool, true, false, ◌||◌, not, Option, Some, None, length, slice_get, nat_lt, nat_eq, bytes_eq, Decides, if◌then◌else◌, refl, sym, ap, ap₂, ◌∙◌, subst, arith, length-append}
+use Rattle.std.proofs.Common.{◌≡◌, ℕ, zero, suc, ◌+◌, ◌-◌, ◌≤◌, ◌<◌, ◌^◌, List, [], ◌∷◌, Bool, true, false, ◌||◌, not, Option, Some, None, length, slice_get, nat_lt, nat_eq, bytes_eq, if◌then◌else◌, refl, sym, ap, ap₂, ◌∙◌, subst, arith, length-append}
 use Rattle.std.proofs.lemmas.Slice.Eq.{bytes_eq-Decides}
 use Rattle.std.proofs.lemmas.Option.{slice_get_within}
 use Rattle.wasm_types.specs.declared.module.ValType.{ValType}
@@ -9,14 +9,14 @@ use Rattle.wasm_types.specs.declared.module.Export.{Export}
 use Rattle.wasm_types.specs.declared.module.Module.{Module}
 use Rattle.wasm_types.specs.declared.place.Node.{Node}
 use Rattle.wasm_types.specs.Code.{code_of, count}
-use Rattle.wasm_types.specs.Spaces.{type_numbered, type_of_func, func_types, imported, func_import, import_count, body_of, HasBody, IsOwnFunc}
+use Rattle.wasm_types.specs.Spaces.{type_of_func, func_types, imported, func_import, import_count, body_of, HasBody, IsOwnFunc}
 use Rattle.wasm_types.specs.declared.place.Part.TheVariants as part
 use Rattle.wasm_types.specs.declared.place.LimitKind.TheVariants as limit
 use Rattle.wasm_types.specs.Subset.{IsSealed}
 use Rattle.wasm_types.specs.Validity.{IsValid}
 use Rattle.wasm_types.specs.Actions.{Callees, callees}
 use Rattle.wasm_types.specs.Sites.{Site, Sites, IsSite}
-use Rattle.stack_names.specs.Named.{Named, AreNames, is_live_in, listed_all}
+use Rattle.stack_names.specs.Named.{Named, is_live_in, listed_all}
 use Rattle.stack_names.proofs.NameLemmas.{own_body}
 use Rattle.flow_domain.specs.Sliced.{func_count, sites_at, HasExport, IsSliced}
 use Rattle.stack_repair.proofs.Appended.{type_at}

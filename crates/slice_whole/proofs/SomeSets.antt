@@ -11,7 +11,7 @@ use Rattle.wasm_types.specs.Actions.{Callees}
 use Rattle.wasm_types.specs.Locations.{OfCalls}
 use Rattle.wasm_types.specs.Marked.{Marked}
 use Rattle.wasm_types.specs.Nodes.{At, Join}
-use Rattle.wasm_types.specs.Reaching.{Table, Writes, writes_it, WritesAt}
+use Rattle.wasm_types.specs.Reaching.{Table, writes_it, WritesAt}
 use Rattle.wasm_types.specs.Sites.{Head, BlockHead, LoopHead, IfHead, Site, Sites, IsSite, EndAt, HasJoin, body_sites, body_ends, carry_names}
 use Rattle.flow_domain.specs.Kept.{Kept, criterion, criterion_operand, operand, reaching, deciding, carrying, ending, holding_at, holding_join, own_join, Tells}
 use Rattle.flow_domain.specs.Presence.{IsNeeded, IsNeeded as needed}

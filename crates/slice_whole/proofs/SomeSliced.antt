@@ -1,5 +1,5 @@
 -- Where nothing is against a slice, there is one: that there is none is impossible.
-use Rattle.std.proofs.Common.{◌≡◌, ℕ, zero, suc, ◌+◌, ◌-◌, ◌≤◌, ◌<◌, List, [], ◌∷◌, Bool, true, false, Option, Some, None, length, slice_get, nat_lt, nat_eq, if◌then◌else◌, refl, sym, ap, ap₂, ◌∙◌, subst, arith, length-append}
+use Rattle.std.proofs.Common.{◌≡◌, ℕ, ◌-◌, ◌≤◌, ◌<◌, List, Bool, true, false, Option, Some, None, length, slice_get, nat_lt, nat_eq, if◌then◌else◌, refl, sym, ap₂, ◌∙◌, arith, length-append}
 use Rattle.wasm_types.specs.declared.module.FuncType.{FuncType}
 use Rattle.wasm_types.specs.declared.module.Name.{Name}
 use Rattle.wasm_types.specs.declared.module.Body.{Body}
@@ -8,7 +8,7 @@ use Rattle.wasm_types.specs.declared.place.Node.{Node}
 use Rattle.wasm_types.specs.declared.place.Part.TheVariants as part
 use Rattle.wasm_types.specs.Marked.{watched_at}
 use Rattle.wasm_types.specs.Subset.{HasNoFloat}
-use Rattle.wasm_types.specs.Spaces.{imported, func_import, import_count, type_of_func, body_of, HasBody, IsOwnFunc}
+use Rattle.wasm_types.specs.Spaces.{imported, func_import, import_count, type_of_func, body_of}
 use Rattle.wasm_types.specs.Validity.{IsValid}
 use Rattle.wasm_types.specs.Actions.{callees}
 use Rattle.wasm_types.specs.Sites.{Site, IsSite}
@@ -17,8 +17,7 @@ use Rattle.flow_domain.specs.Sliced.{func_count, sites_at, UsesAt, no_calls, Kep
 use Rattle.stack_repair.proofs.Appended.{own_body, type_at}
 use Rattle.stack_repair.proofs.Bodies.{types_of_body}
 use Rattle.stack_repair.proofs.ExactCut.{needed_told}
-use Rattle.slice_whole.specs.declared.slicing.SliceRefusal.{SliceRefusal}
-use Rattle.slice_whole.specs.declared.slicing.SliceRefusal.TheVariants.{NoFunction, Imported, Dead}
+use Rattle.slice_whole.specs.declared.slicing.SliceRefusal.TheVariants.{NoFunction, Imported}
 use Rattle.slice_whole.specs.Slices.{Own, sites_of, why_no_site, sites_in, why_not}
 use Rattle.slice_whole.proofs.Refused.{body_told, nothing_of, present_at}
 use Rattle.slice_whole.proofs.SomeSets.{NotRefuted, some_kept}

@@ -9,7 +9,7 @@ ghost use Rattle.slice_whole.specs.declared.slicing.SliceRefusal.TheVariants as 
 ghost use Rattle.slice_whole.specs.Slices.{FindsNew, IsShortFor, Slices, is_exported};
 
 use crate::calling::calls;
-use slice_closure::close;
+use slice_closure::close_named;
 use sqlite_items::Items;
 use stack_names::names;
 use stack_repair::{CutBody, cut};
@@ -135,7 +135,7 @@ fn new_func(
     if calls(body.code.as_slice()) {
         return Err(SliceRefusal::Unbuilt);
     }
-    let kept = close(alloc, given, func, at)?;
+    let kept = close_named(alloc, given, func, &names, at)?;
     let CutBody { body, at } = cut(alloc, given, func, &names, &kept, at)?;
     let own = func as usize + module.funcs.len() - count as usize;
     let Some(kind) = module.funcs.get(own) else {

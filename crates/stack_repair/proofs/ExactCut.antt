@@ -1,5 +1,5 @@
 -- What the names of a function's values tell makes the cut of its body.
-use Rattle.std.proofs.Common.{inl, inr, ◌≡◌, ℕ, zero, suc, ◌+◌, ◌-◌, ◌*◌, ◌^◌, ◌<◌, ◌≤◌, List, [], ◌∷◌, ◌++◌, map, replicate, Bool, true, false, Option, Some, length-append, take, length, slice_get, nat_eq, refl, sym, ap, ap₂, ◌∙◌, subst, arith}
+use Rattle.std.proofs.Common.{inl, inr, ◌≡◌, ℕ, zero, suc, ◌-◌, ◌^◌, ◌<◌, ◌≤◌, List, [], ◌∷◌, ◌++◌, replicate, Bool, true, false, Option, Some, length-append, take, length, slice_get, nat_eq, refl, sym, ap, ap₂, ◌∙◌, subst, arith}
 use Rattle.std.proofs.Math.Path.{fun_ext}
 use Rattle.std.proofs.lemmas.List.{length-replicate}
 use Rattle.std.proofs.lemmas.Option.{slice_get_within}
@@ -13,17 +13,17 @@ use Rattle.wasm_types.specs.declared.place.Node.TheVariants as node
 use Rattle.wasm_types.specs.declared.place.Taker.{Taker}
 use Rattle.wasm_types.specs.declared.place.Taker.TheVariants as taker
 use Rattle.wasm_types.specs.Code.{code_of, count}
-use Rattle.wasm_types.specs.Marked.{Marked, End, Do, Block, Loop, If, Br, BrIf, BrTable, Return, Unreachable, marked, unmarked, size, marks, first_mark, watched_at}
+use Rattle.wasm_types.specs.Marked.{Marked, End, Do, Block, Loop, If, Br, BrIf, BrTable, Return, Unreachable, unmarked, size, marks, first_mark, watched_at}
 use Rattle.wasm_types.specs.Spaces.{type_of_func, HasBody}
 use Rattle.wasm_types.specs.Typing.{Context}
-use Rattle.wasm_types.specs.Actions.{Callees, callees}
+use Rattle.wasm_types.specs.Actions.{callees}
 use Rattle.wasm_types.specs.Nodes.{At}
 use Rattle.wasm_types.specs.Labels.{body_label}
-use Rattle.wasm_types.specs.Sites.{Site, Sites, IsSite, EndAt, Among, all_operands, one_end, end_names, inner_ends, body_sites, body_ends}
-use Rattle.wasm_types.specs.Takers.{given, takings, takers_of}
+use Rattle.wasm_types.specs.Sites.{Site, Sites, IsSite, EndAt, Among, all_operands, one_end, end_names, inner_ends}
+use Rattle.wasm_types.specs.Takers.{takings, takers_of}
 use Rattle.wasm_types.specs.Places.{TypesPlaces}
 use Rattle.stack_names.specs.declared.place.Place.{Place}
-use Rattle.stack_names.specs.Named.{Named, AreNames, operands_in, of_node, place_of, placed, listed_all}
+use Rattle.stack_names.specs.Named.{Named, AreNames, of_node, place_of, placed, listed_all}
 use Rattle.stack_names.proofs.PlaceLemmas.{one_placed}
 use Rattle.stack_names.proofs.WalkLaw.{size_marked}
 use Rattle.flow_domain.specs.Kept.{Tells}
@@ -36,7 +36,7 @@ use Rattle.stack_repair.proofs.Counting.{cut_is_short}
 use Rattle.stack_repair.proofs.Typed.{Typed}
 use Rattle.stack_repair.proofs.Positions.{has_all, length-sites, among_left, among_right, among_end}
 use Rattle.stack_repair.proofs.Bodies.{typed_body, typed_code, live_body, types_of_body, one_cut_code}
-use Rattle.stack_repair.proofs.Takings.{has_given, MadeIn, IsTaken, EachTaken, taken_in, each_taken}
+use Rattle.stack_repair.proofs.Takings.{has_given, IsTaken, EachTaken, taken_in, each_taken}
 use Rattle.stack_repair.proofs.Takers.{sites_taken, each_at}
 use Rattle.stack_repair.proofs.Present.{present_tells}
 use Rattle.stack_repair.proofs.TakenTypes.{noted_at}

@@ -1,5 +1,5 @@
 -- The places that are present by their takers are those that are needed.
-use Rattle.std.proofs.Common.{inl, inr, ◌≡◌, ℕ, ◌+◌, ◌⊎◌, List, [], ◌∷◌, ◌++◌, Bool, true, false, ◌||◌, Option, Some, None, length, slice_get, refl, sym, ap, ◌∙◌, subst, arith}
+use Rattle.std.proofs.Common.{inl, inr, ◌≡◌, ◌⊎◌, List, [], ◌∷◌, Bool, true, false, ◌||◌, length, refl, sym, ap, ◌∙◌, subst, arith}
 use Rattle.wasm_types.specs.declared.module.ValType.{ValType}
 use Rattle.wasm_types.specs.declared.place.Node.{Node}
 use Rattle.wasm_types.specs.declared.place.Node.TheVariants as node
@@ -10,12 +10,12 @@ use Rattle.wasm_types.specs.Typing.{Context}
 use Rattle.wasm_types.specs.Actions.{Callees, callees}
 use Rattle.wasm_types.specs.Nodes.{At, Join}
 use Rattle.wasm_types.specs.Labels.{body_label}
-use Rattle.wasm_types.specs.Sites.{Site, Sites, IsSite, EndAt, Among, one_end, end_names, inner_ends, body_sites, body_ends}
+use Rattle.wasm_types.specs.Sites.{Sites, EndAt, Among, one_end, end_names, inner_ends, body_sites, body_ends}
 use Rattle.wasm_types.specs.Takers.{given, takings, takers_of}
 use Rattle.flow_domain.specs.Kept.{Tells}
 use Rattle.flow_domain.specs.Presence.{IsNeeded, maker, result, operand, left, at_exit}
 use Rattle.stack_repair.specs.Told.{is_kept, any_kept, ends_kept, is_present}
-use Rattle.stack_repair.proofs.Takings.{has_given, given_has, Owns, IsTaken, EachTaken, taken_in}
+use Rattle.stack_repair.proofs.Takings.{has_given, given_has, IsTaken, EachTaken, taken_in}
 use Rattle.stack_repair.proofs.Takers.{each_at, sites_taken, EachEnd, end_in, ends_append, one_end_taken, ends_taken}
 
 or_left : (a b : Bool) → a ≡ true → (a || b) ≡ true

@@ -6,7 +6,7 @@ use Rattle.wasm_types.specs.declared.instr.Instr.{Instr}
 use Rattle.wasm_types.specs.declared.instr.Instr as instr
 use Rattle.wasm_types.specs.declared.instr.Instr.TheVariants as v
 use Rattle.wasm_types.specs.Code.{Code, done, onto, code_of_row, code_of, count, list_of, is_plain}
-use Rattle.wasm_types.specs.Marked.{Marked, End, Do, Block, Loop, If, plain, unmarked, marks, first_mark}
+use Rattle.wasm_types.specs.Marked.{Marked, End, Do, Block, Loop, If, plain, unmarked, marks}
 use Rattle.wasm_types.specs.Nodes.{At}
 use Rattle.wasm_types.proofs.CodeLemmas.{onto-block, onto-loop, onto-if, onto-one, count-onto}
 use Rattle.stack_names.specs.Found.{goes_on}

@@ -1,12 +1,12 @@
 -- The types of the values that instructions take.
-use Rattle.std.proofs.Common.{inl, inr, ◌≡◌, ℕ, zero, suc, ◌+◌, ◌<◌, List, [], ◌∷◌, ◌++◌, Bool, true, false, Option, Some, None, take, length, slice_get, slice_set, nat_eq, refl, sym, ap, ◌∙◌, subst, arith, eqb-true, eq-eqb}
+use Rattle.std.proofs.Common.{inl, inr, ◌≡◌, ℕ, zero, suc, ◌<◌, List, [], ◌∷◌, ◌++◌, Bool, true, false, Some, None, take, length, slice_get, slice_set, nat_eq, refl, sym, ap, ◌∙◌, subst, arith, eqb-true, eq-eqb}
 use Rattle.std.proofs.lemmas.Option.{slice_get_within}
 use Rattle.wasm_types.specs.declared.module.ValType.{ValType}
 use Rattle.wasm_types.specs.declared.place.Node.{Node}
 use Rattle.wasm_types.specs.declared.place.Node.TheVariants as node
 use Rattle.wasm_types.specs.Actions.{Callees}
 use Rattle.wasm_types.specs.Nodes.{At}
-use Rattle.wasm_types.specs.Sites.{Site, Sites, Among, all_operands}
+use Rattle.wasm_types.specs.Sites.{Sites, Among, all_operands}
 use Rattle.stack_names.specs.declared.place.Place.{Place}
 use Rattle.stack_names.specs.Named.{Named, operands_in, place_of, placed, listed_all}
 use Rattle.stack_names.proofs.PlaceLemmas.{one_placed}

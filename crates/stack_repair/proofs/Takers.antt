@@ -1,14 +1,13 @@
 -- What an operand or a live end has is among its takers' pairs.
-use Rattle.std.proofs.Common.{inl, inr, ◌≡◌, ℕ, zero, suc, ◌+◌, ◌≤◌, ◌<◌, List, [], ◌∷◌, ◌++◌, map, replicate, Bool, Option, Some, None, take, drop, length, slice_get, refl, sym, ap, ◌∙◌, subst, arith}
-use Rattle.wasm_types.specs.declared.module.ValType.{ValType}
+use Rattle.std.proofs.Common.{inl, inr, ◌≡◌, ℕ, zero, suc, ◌+◌, ◌<◌, List, [], ◌∷◌, ◌++◌, replicate, Option, Some, None, take, drop, length, slice_get, refl, sym, ap, subst, arith}
 use Rattle.wasm_types.specs.declared.place.Node.{Node}
 use Rattle.wasm_types.specs.declared.place.Taker.{Taker}
 use Rattle.wasm_types.specs.declared.place.Taker.TheVariants as taker
 use Rattle.wasm_types.specs.Marked.{Marked, End, Do, Block, Loop, If, Br, BrIf, BrTable, Return, Unreachable, size}
-use Rattle.wasm_types.specs.Actions.{Callees, takes, leaves}
-use Rattle.wasm_types.specs.Nodes.{At, Join, named, made}
+use Rattle.wasm_types.specs.Actions.{Callees, takes}
+use Rattle.wasm_types.specs.Nodes.{Join, named, made}
 use Rattle.wasm_types.specs.Labels.{arity, carried, outermost, Label, block_label, loop_label, arities}
-use Rattle.wasm_types.specs.Sites.{Site, Sites, IsSite, sites, EndAt, one_end, end_names, inner_ends, all_operands, Among}
+use Rattle.wasm_types.specs.Sites.{Site, Sites, sites, EndAt, one_end, end_names, inner_ends, all_operands, Among}
 use Rattle.wasm_types.specs.Takers.{taken, taken_at, takings}
 use Rattle.flow_domain.specs.Presence.{AmongFirst}
 use Rattle.stack_repair.proofs.Positions.{length-sites, among_left, among_right}

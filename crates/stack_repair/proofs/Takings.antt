@@ -1,5 +1,5 @@
 -- What takes each value, against the sites and the live ends of a body.
-use Rattle.std.proofs.Common.{inl, inr, ◌≡◌, ℕ, zero, suc, ◌+◌, ◌≤◌, ◌<◌, ◌⊎◌, List, [], ◌∷◌, ◌++◌, map, replicate, Bool, true, false, Option, Some, None, take, drop, length, slice_get, nat_eq, if◌then◌else◌, refl, sym, ap, ap₂, ◌∙◌, subst, arith, eq-eqb, eqb-true}
+use Rattle.std.proofs.Common.{inl, inr, ◌≡◌, ℕ, zero, suc, ◌+◌, ◌≤◌, ◌<◌, List, [], ◌∷◌, ◌++◌, map, Bool, true, false, Option, Some, None, drop, slice_get, if◌then◌else◌, refl, sym, ap, ap₂, ◌∙◌, subst, arith, eq-eqb, eqb-true}
 use Rattle.wasm_types.specs.declared.module.ValType.{ValType}
 use Rattle.wasm_types.specs.declared.place.Node.{Node}
 use Rattle.wasm_types.specs.declared.place.Node.TheVariants as node
@@ -9,7 +9,7 @@ use Rattle.wasm_types.specs.declared.instr.Instr.{Instr}
 use Rattle.wasm_types.specs.Marked.{Marked, End, Do, Block, Loop, If, Br, BrIf, BrTable, Return, Unreachable, size}
 use Rattle.wasm_types.specs.Typing.{Context}
 use Rattle.wasm_types.specs.Validity.{values_of}
-use Rattle.wasm_types.specs.Actions.{Callees, callees, takes, leaves}
+use Rattle.wasm_types.specs.Actions.{callees, takes, leaves}
 use Rattle.wasm_types.specs.Nodes.{At, Join, named, made}
 use Rattle.wasm_types.specs.Labels.{arity, carried, outermost, Label, block_label, loop_label, arities, join_of}
 use Rattle.wasm_types.specs.Sites.{Head, DoHead, BlockHead, LoopHead, IfHead, Site, Sites, IsSite, sites, EndAt, one_end, end_names, inner_ends, all_operands, Among}

@@ -1,7 +1,6 @@
 -- What is put for a body, by what is told of it, is its cut.
-use Rattle.std.proofs.Common.{inl, inr, ◌≡◌, ℕ, zero, suc, ◌+◌, ◌≤◌, ◌<◌, List, [], ◌∷◌, ◌++◌, map, reverse, Bool, true, false, ◌||◌, Option, Some, None, take, drop, length, slice_get, nat_eq, if◌then◌else◌, refl, sym, ap, ap₂, ◌∙◌, subst, arith}
+use Rattle.std.proofs.Common.{inl, inr, ◌≡◌, ℕ, zero, suc, ◌+◌, ◌≤◌, List, [], ◌∷◌, ◌++◌, Bool, true, false, ◌||◌, Option, Some, None, take, drop, slice_get, nat_eq, if◌then◌else◌, refl, sym, ap, ap₂, ◌∙◌, subst, arith}
 use Rattle.std.specs.Option.{option_map}
-use Rattle.std.proofs.lemmas.List.{append-nil}
 use Rattle.wasm_types.specs.declared.module.ValType.{ValType}
 use Rattle.wasm_types.specs.declared.place.Node.{Node}
 use Rattle.wasm_types.specs.declared.place.Node.TheVariants as node
@@ -10,22 +9,21 @@ use Rattle.wasm_types.specs.declared.place.Taker.TheVariants as taker
 use Rattle.wasm_types.specs.declared.instr.Instr.{Instr}
 use Rattle.wasm_types.specs.declared.instr.Instr as instr
 use Rattle.wasm_types.specs.Code.{Code, done, one, block, repeat, branch, count}
-use Rattle.wasm_types.specs.Marked.{Marked, End, Do, Block, Loop, If, plain, marked, size}
+use Rattle.wasm_types.specs.Marked.{Marked, Do, Block, Loop, If, marked, size}
 use Rattle.wasm_types.specs.Typing.{Context}
 use Rattle.wasm_types.specs.Validity.{values_of}
 use Rattle.wasm_types.specs.Actions.{Callees, callees, takes, leaves}
 use Rattle.wasm_types.specs.Nodes.{At, Join, named, made}
-use Rattle.wasm_types.specs.Labels.{arity, carried, outermost, Label, block_label, loop_label, arities, join_of}
+use Rattle.wasm_types.specs.Labels.{arity, carried, Label, block_label, loop_label, arities, join_of}
 use Rattle.wasm_types.specs.Sites.{Head, DoHead, BlockHead, LoopHead, IfHead, Site, Sites, IsSite, sites, EndAt, all_operands, Among}
 use Rattle.stack_names.specs.declared.place.Place.{Place}
-use Rattle.stack_names.specs.Listed.{Listed}
-use Rattle.stack_names.specs.Found.{goes_on, top_places}
+use Rattle.stack_names.specs.Found.{top_places}
 use Rattle.stack_names.specs.Named.{Named, operands_of, operands_in, stack_of, stack_in, of_node, transfers, place_of, placed, listed, listed_all}
 use Rattle.stack_names.proofs.PlaceLemmas.{top_placed, one_placed}
 use Rattle.stack_names.proofs.WalkLaw.{size_marked}
 use Rattle.flow_domain.specs.Presence.{AmongFirst}
 use Rattle.flow_domain.specs.Cut.{pick, one_more, shown, zero_const, drops, zeros, filler, result_of, cut}
-use Rattle.stack_repair.specs.Told.{is_kept, any_kept, is_present, Told, present_in, count_present, kind_of_taker, kind_by, dropped, filled, shown_kind, put_in}
+use Rattle.stack_repair.specs.Told.{is_kept, any_kept, is_present, Told, present_in, count_present, kind_of_taker, kind_by, shown_kind, put_in}
 use Rattle.stack_repair.proofs.Typed.{Typed}
 use Rattle.stack_repair.proofs.Positions.{HasAt, has_front, has_back, length-sites}
 use Rattle.stack_repair.proofs.Takings.{MadeIn, KindIs, Owns, IsTaken}

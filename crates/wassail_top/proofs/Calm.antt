@@ -11,16 +11,15 @@ use Rattle.report_text.specs.Listing.{listing}
 use Rattle.wasm_decode.specs.Decode.{Decodes}
 use Rattle.wasm_validate.specs.Admission.{Refuses}
 use Rattle.wassail_top.specs.Orders.{Order}
-use Rattle.wassail_top.specs.Orders.Order.{check, rewrite, list, slice, run, trace}
-use Rattle.wassail_top.specs.Answers.{Answers, AnswersOrder, AnswersModule, AnswersAdmitted, IsDue, bytes_alone}
-use Rattle.wassail_top.specs.Refusals.{Answer, unless_refused, why_no_code, why_not_decoded, why_not_admitted, why_not_sliced}
-use Rattle.slice_whole.specs.Slices as query
-use Rattle.wassail_top.specs.Queries.{positions_of, why_not_run, why_not_traced}
+use Rattle.wassail_top.specs.Orders.Order.{check, rewrite, list, kept, slice, run, trace}
+use Rattle.wassail_top.specs.Answers.{Answers, AnswersOrder, AnswersModule, AnswersAdmitted, IsDue, IsKeptAs, IsSlicedAs, bytes_alone}
+use Rattle.wassail_top.specs.Refusals.{Answer, unless_refused, why_no_code, why_not_decoded, why_not_admitted}
+use Rattle.wassail_top.specs.Queries.{positions_of, why_no_slice, why_not_kept, why_not_run, why_not_traced}
 use Rattle.wassail_top.specs.RunAnswers.{AnswersUnless, IsRunAs, ended_status, run_status}
 use Rattle.wassail_top.specs.Statuses.{status_code}
 use Rattle.wassail_top.specs.Words.{order_of}
 use Rattle.wassail_top.specs.Outcome.{ReadFailed, GaveAll}
-use Rattle.wassail_top.proofs.Causes.{module_status, query_status}
+use Rattle.wassail_top.proofs.Causes.{module_status}
 
 -- not a fault, not an allocation that is refused, and not refused words
 pub record IsCalm (status : ℕ) : Type 0 where
@@ -39,6 +38,11 @@ calm_at answer status same far = subst (λ (n : ℕ). IsCalm n) (sym same) (calm
 calm_unless : (why : Option QueryRefusal) (bytes : List ℕ) (answer : Answer) → answer ≡ unless_refused why (bytes_alone bytes) → IsCalm answer.status
 calm_unless None bytes answer h = calm_at answer 0 (ap (λ (a : Answer). a.status) h) (inl (omega arith))
 calm_unless (Some why) bytes answer h = calm_at answer 6 (ap (λ (a : Answer). a.status) h) (inr (omega arith))
+
+calm_unless_told : (why : Option QueryRefusal) (Holds : Answer → Type 0) → ((a : Answer) → Holds a → a.status ≡ 0) → (answer : Answer)
+    → AnswersUnless why Holds answer → IsCalm answer.status
+calm_unless_told None Holds zero answer h = calm_at answer 0 (zero answer h) (inl (omega arith))
+calm_unless_told (Some why) Holds zero answer h = calm_at answer 6 (ap (λ (a : Answer). a.status) h) (inr (omega arith))
 
 calm_ended : (e : Ended) → IsCalm (status_code (ended_status e))
 calm_ended (ended.Returned value turns) = calm 0 (inl (omega arith))
@@ -61,10 +65,9 @@ calm_admitted : (order : Order) (m : Module) (answer : Answer) → AnswersAdmitt
 calm_admitted check m answer h = calm_at answer 0 (ap (λ (a : Answer). a.status) h) (inl (omega arith))
 calm_admitted rewrite m answer h = calm_at answer 0 (ap (λ (a : Answer). a.status) h) (inl (omega arith))
 calm_admitted (list func) m answer h = calm_unless (why_no_code m func) (listing m func) answer h
-calm_admitted (slice func at name) m answer (inl unbuilt) = calm_at answer 6 (ap (λ (a : Answer). a.status) unbuilt.1) (inr (omega arith))
-calm_admitted (slice func at name) m answer (inr (flat, inl bad)) =
-    calm_at answer 6 (query_status (query.Refuses m func at name) (why_not_sliced func at) answer bad) (inr (omega arith))
-calm_admitted (slice func at name) m answer (inr (flat, inr sliced)) = calm_at answer 0 (ap (λ (a : Answer). a.status) sliced.is) (inl (omega arith))
+calm_admitted (kept func at) m answer h = calm_unless_told (why_not_kept m func at) (IsKeptAs m func at) (λ a k. ap (λ (x : Answer). x.status) k.is) answer h
+calm_admitted (slice func at name) m answer h =
+    calm_unless_told (why_no_slice m func at name) (IsSlicedAs m func at name) (λ a sliced. ap (λ (x : Answer). x.status) sliced.is) answer h
 calm_admitted (run func budget args replies) m answer h =
     calm_unless_run m func (positions_of m func) budget args replies (why_not_run m func args) answer h
 calm_admitted (trace func at budget args replies) m answer h = calm_unless_run m func at budget args replies (why_not_traced m func at args) answer h
@@ -90,6 +93,13 @@ pub not_write_fault : (words : List (List ℕ)) (old new : Option (List ℕ)) (b
 not_write_fault words old new before now answer (inl (inl refused)) = λ e. let two : answer.status ≡ 2 = ap (λ (a : Answer). a.status) refused.1 in omega arith
 not_write_fault words old new before now answer (inl (inr (order, named, h))) = (calm_order order old new answer h).no_write_fault
 not_write_fault words old new before now answer (inr failed) = λ e. let three : answer.status ≡ 3 = ap (λ (a : Answer). a.status) failed.3 in omega arith
+
+-- none tells that an allocation was refused
+pub not_memory : (words : List (List ℕ)) (old new : Option (List ℕ)) (before now : ℕ) (answer : Answer) → IsDue words old new before now answer
+    → answer.status ≢ 5
+not_memory words old new before now answer (inl (inl refused)) = λ e. let two : answer.status ≡ 2 = ap (λ (a : Answer). a.status) refused.1 in omega arith
+not_memory words old new before now answer (inl (inr (order, named, h))) = (calm_order order old new answer h).memory
+not_memory words old new before now answer (inr failed) = λ e. let three : answer.status ≡ 3 = ap (λ (a : Answer). a.status) failed.3 in omega arith
 
 -- where the status is 3, a read failed
 pub read_failed : (words : List (List ℕ)) (old new : Option (List ℕ)) (before now : ℕ) (out_old out_new err_old err_new : Option (List ℕ)) (answer : Answer)

@@ -8,11 +8,12 @@ use Rattle.wasm_types.specs.declared.module.Module.{Module}
 use Rattle.text_laws.proofs.ModuleLemmas.{one_module}
 use Rattle.wasm_decode.specs.Decode.{Decodes}
 use Rattle.wasm_validate.specs.Admission.{IsAdmitted}
-use Rattle.wassail_top.specs.Answers.{AnswersOrder, AnswersBytes, AnswersModule, AnswersAdmitted, HasStatus, IsDue, IsTaken, bytes_alone, most_bytes}
+use Rattle.wassail_top.specs.Answers.{AnswersOrder, AnswersBytes, AnswersModule, AnswersAdmitted, HasStatus, IsDue, IsKeptAs, IsSlicedAs, IsTaken, bytes_alone, most_bytes}
 use Rattle.wassail_top.specs.Orders.{Order}
-use Rattle.wassail_top.specs.Orders.Order.{check, rewrite, list, slice, run, trace}
+use Rattle.wassail_top.specs.Orders.Order.{check, rewrite, list, kept, slice, run, trace}
 use Rattle.wassail_top.specs.Refusals.{Answer, unless_refused}
 use Rattle.wassail_top.specs.Queries.{positions_of, why_not_run, why_not_traced}
+use Rattle.wassail_top.specs.RunAnswers.{AnswersUnless}
 use Rattle.wassail_top.specs.Words.{order_of}
 use Rattle.wassail_top.proofs.OneAdmission.{admitted_not_refused}
 use Rattle.wassail_top.proofs.OneDecoding.{decoded_not_refused}
@@ -25,9 +26,10 @@ of_admitted rewrite m answer takes h = ap (λ (a : Answer). a.status) h
 of_admitted (list func) m answer takes h =
     let told : answer ≡ bytes_alone (listing m func) = subst (λ why. answer ≡ unless_refused why (bytes_alone (listing m func))) takes h in
     ap (λ (a : Answer). a.status) told
-of_admitted (slice func at name) m answer takes (inl unbuilt) = absurd (unbuilt.0 takes.0)
-of_admitted (slice func at name) m answer takes (inr (flat, inl bad)) = absurd (takes.1 bad.0 bad.1 bad.2 bad.3)
-of_admitted (slice func at name) m answer takes (inr (flat, inr sliced)) = ap (λ (a : Answer). a.status) sliced.is
+of_admitted (kept func at) m answer takes h =
+    let k = subst (λ why. AnswersUnless why (IsKeptAs m func at) answer) takes h in ap (λ (a : Answer). a.status) k.is
+of_admitted (slice func at name) m answer takes h =
+    let sliced = subst (λ why. AnswersUnless why (IsSlicedAs m func at name) answer) takes h in ap (λ (a : Answer). a.status) sliced.is
 of_admitted (run func budget args replies) m answer takes h =
     status_of_run m func (positions_of m func) budget args replies (why_not_run m func args) answer takes h
 of_admitted (trace func at budget args replies) m answer takes h = status_of_run m func at budget args replies (why_not_traced m func at args) answer takes h

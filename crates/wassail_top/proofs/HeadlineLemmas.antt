@@ -1,23 +1,33 @@
 -- Status 0 of `slice` says what it is to say.
-use Rattle.std.proofs.Common.{◌≡◌, ◌≤◌, ℕ, List, length, Option, Some, Err, sym, ap, ◌∙◌, subst, inl, inr, arith}
+use Rattle.std.proofs.Common.{◌≡◌, ◌≤◌, ℕ, List, length, Option, Some, None, Err, refl, sym, ap, ◌∙◌, subst, inl, inr, arith}
 use Rattle.outside_io.specs.Whole.{TookAll}
 use Rattle.wasm_types.specs.Canon.{canon}
 use Rattle.wasm_types.specs.Subset.{InSubset, most_nesting}
 use Rattle.text_laws.proofs.LeastLemmas.{canon_is_least}
 use Rattle.wasm_decode.specs.Decode.{Decodes}
 use Rattle.wasm_validate.specs.Admission as admission
-use Rattle.wassail_top.specs.Answers.{AnswersOrder, AnswersBytes, IsDue, most_bytes, name_of}
+use Rattle.wasm_types.specs.declared.module.Module.{Module}
+use Rattle.report_text.specs.declared.refusal.QueryRefusal.{QueryRefusal}
+use Rattle.wassail_top.specs.Answers.{AnswersOrder, AnswersBytes, IsDue, IsSlicedAs, most_bytes, name_of}
 use Rattle.wassail_top.specs.Headline.{SliceHolds}
 use Rattle.wassail_top.specs.Orders.{Order}
 use Rattle.wassail_top.specs.Orders.Order.{slice}
 use Rattle.wassail_top.specs.Outcome.{GaveAll}
-use Rattle.wassail_top.specs.Refusals.{Answer, why_not_decoded, why_not_admitted, why_not_sliced}
-use Rattle.slice_whole.specs.Slices.{Refuses}
+use Rattle.wassail_top.specs.Refusals.{Answer, why_not_decoded, why_not_admitted}
+use Rattle.wassail_top.specs.Queries.{why_no_slice}
+use Rattle.wassail_top.specs.RunAnswers.{AnswersUnless}
+use Rattle.wassail_top.proofs.SliceQueries.{not_sliced_none}
 use Rattle.slice_whole.proofs.Follows.{slice_follows}
+use Rattle.slice_whole.proofs.Refused.{calls_nothing, not_exported}
 use Rattle.wassail_top.specs.Words.{order_of}
-use Rattle.wassail_top.proofs.Causes.{module_status, query_status}
+use Rattle.wassail_top.proofs.Causes.{module_status}
 use Rattle.stack_repair.proofs.Slices.{sliced_has_cut}
 use Rattle.stack_repair.proofs.Appended.{slice_is_valid, slice_is_spelled}
+
+sliced_so : (m : Module) (f i : ℕ) (name : List ℕ) (answer : Answer) (why : Option QueryRefusal) → why_no_slice m f i name ≡ why
+    → AnswersUnless why (IsSlicedAs m f i name) answer → answer.status ≡ 0 → IsSlicedAs m f i name answer × (why_no_slice m f i name ≡ None)
+sliced_so m f i name answer None is h zero = (h, is)
+sliced_so m f i name answer (Some why) is h zero = let six : answer.status ≡ 6 = ap (λ (a : Answer). a.status) h in absurd (omega arith)
 
 holds : (f i : ℕ) (name : List ℕ) (bytes : List ℕ) (left_old left_new out_old out_new err_old err_new : Option (List ℕ)) (answer : Answer)
     → TookAll left_old left_new bytes → length bytes ≤ most_bytes → AnswersBytes (slice f i name) bytes answer → answer.status ≡ 0
@@ -27,17 +37,16 @@ holds f i name bytes left_old left_new out_old out_new err_old err_new answer to
     let one : answer.status ≡ 1 = module_status (λ end. Decodes bytes (Err end)) why_not_decoded answer bad in absurd (omega arith)
 holds f i name bytes left_old left_new out_old out_new err_old err_new answer took short (inr (form, decodes, inl bad)) zero gave =
     let one : answer.status ≡ 1 = module_status (admission.Refuses form) why_not_admitted answer bad in absurd (omega arith)
-holds f i name bytes left_old left_new out_old out_new err_old err_new answer took short (inr (form, decodes, inr (admitted, inl unbuilt))) zero gave =
-    let six : answer.status ≡ 6 = ap (λ (a : Answer). a.status) unbuilt.1 in absurd (omega arith)
-holds f i name bytes left_old left_new out_old out_new err_old err_new answer took short (inr (form, decodes, inr (admitted, inr (flat, inl bad)))) zero gave =
-    let six : answer.status ≡ 6 = query_status (Refuses form f i name) (why_not_sliced f i) answer bad in absurd (omega arith)
-holds f i name bytes left_old left_new out_old out_new err_old err_new answer took short (inr (form, decodes, inr (admitted, inr (flat, inr s)))) zero gave =
-    let h = sliced_has_cut form f i (name_of name) s.new s.at s.proper s.free s.sliced in
+holds f i name bytes left_old left_new out_old out_new err_old err_new answer took short (inr (form, decodes, inr (admitted, h))) zero gave =
+    let found = sliced_so form f i name answer (why_no_slice form f i name) refl h zero in
+    let s = found.0 in
+    let none = not_sliced_none form f i name found.1 in
+    let cut = sliced_has_cut form f i (name_of name) s.new s.at s.proper (not_exported form f i name none) s.sliced in
     let sub : InSubset form = record { no_float = admitted.no_float; limits = admitted.limits; nesting = decodes.1 } in
-    let valid = slice_is_valid form (name_of name) s.new admitted.valid sub h in
+    let valid = slice_is_valid form (name_of name) s.new admitted.valid sub cut in
     let few : length (canon form) ≤ length bytes = canon_is_least bytes form decodes.0 in
     let name_short = s.short in
-    let spelled = slice_is_spelled form (name_of name) s.new admitted.valid sub h (omega arith) (omega arith) in
+    let spelled = slice_is_spelled form (name_of name) s.new admitted.valid sub cut (omega arith) (omega arith) in
     let given = subst (λ (a : Answer). GaveAll out_old out_new err_old err_new a) s.is gave in
     record {
       bytes = bytes;
@@ -51,7 +60,7 @@ holds f i name bytes left_old left_new out_old out_new err_old err_new answer to
       err = given.err;
       valid = valid.0;
       itself = record { decodes = (spelled.1, valid.3 most_nesting sub.nesting); alone = spelled.2 };
-      follows = slice_follows form flat f i (name_of name) s.new s.at s.sliced;
+      follows = slice_follows form admitted.valid admitted.no_float f i (name_of name) s.new s.at s.sliced (calls_nothing form f i name s.new s.at none s.sliced);
     }
 
 of_order : (f i : ℕ) (name : List ℕ) (left_old left_new out_old out_new err_old err_new : Option (List ℕ)) (answer : Answer)

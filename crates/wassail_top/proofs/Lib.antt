@@ -2,10 +2,10 @@ mod Causes
 mod Reading
 mod OneDecoding
 mod OneAdmission
-mod FlatAdmitted
 mod Complete
 mod Calm
 mod HeadlineLemmas
+mod SliceQueries
 mod OneSlice
 mod OneAnswer
 mod NotRefuted

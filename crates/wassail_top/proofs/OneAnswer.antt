@@ -5,35 +5,36 @@ use Rattle.report_text.specs.declared.refusal.Refusal.TheVariants as refusal
 use Rattle.wasm_types.specs.declared.module.Module.{Module}
 use Rattle.text_laws.proofs.ModuleLemmas.{one_module}
 use Rattle.wasm_decode.specs.Decode.{Decodes}
-use Rattle.wasm_validate.specs.Admission.{Refuses}
+use Rattle.wasm_validate.specs.Admission.{IsAdmitted, Refuses}
 use Rattle.wassail_top.specs.Answers.{Answers, AnswersOrder, AnswersBytes, AnswersModule, AnswersAdmitted, most_bytes}
 use Rattle.wassail_top.specs.Orders.{Order}
-use Rattle.wassail_top.specs.Orders.Order.{check, rewrite, list, slice, run, trace}
+use Rattle.wassail_top.specs.Orders.Order.{check, rewrite, list, kept, slice, run, trace}
 use Rattle.wassail_top.specs.Refusals.{Answer, why_not_decoded, why_not_admitted}
-use Rattle.wassail_top.specs.Queries.{positions_of, why_not_run, why_not_traced}
+use Rattle.wassail_top.specs.Queries.{positions_of, why_no_slice, why_not_kept, why_not_run, why_not_traced}
 use Rattle.wassail_top.specs.Words.{order_of}
 use Rattle.wassail_top.proofs.Causes.{one_refused}
 use Rattle.wassail_top.proofs.OneAdmission as admission
 use Rattle.wassail_top.proofs.OneAdmission.{admitted_not_refused}
 use Rattle.wassail_top.proofs.OneDecoding as decoding
 use Rattle.wassail_top.proofs.OneDecoding.{decoded_not_refused}
-use Rattle.wassail_top.proofs.OneSlice.{one_slice}
+use Rattle.wassail_top.proofs.OneSlice.{one_kept_answer, one_slice_answer}
 use Rattle.wassail_top.proofs.Reading.{all_taken, not_long}
 use Rattle.wassail_top.proofs.RunLemmas.{one_run_answer}
 
-of_admitted : (order : Order) (m : Module) (a b : Answer) → AnswersAdmitted order m a → AnswersAdmitted order m b → a ≡ b
-of_admitted check m a b p q = p ∙ sym q
-of_admitted rewrite m a b p q = p ∙ sym q
-of_admitted (list func) m a b p q = p ∙ sym q
-of_admitted (slice func at name) m a b p q = one_slice func at name m a b p q
-of_admitted (run func budget args replies) m a b p q = one_run_answer m func (positions_of m func) budget args replies (why_not_run m func args) a b p q
-of_admitted (trace func at budget args replies) m a b p q = one_run_answer m func at budget args replies (why_not_traced m func at args) a b p q
+of_admitted : (order : Order) (m : Module) → IsAdmitted m → (a b : Answer) → AnswersAdmitted order m a → AnswersAdmitted order m b → a ≡ b
+of_admitted check m admitted a b p q = p ∙ sym q
+of_admitted rewrite m admitted a b p q = p ∙ sym q
+of_admitted (list func) m admitted a b p q = p ∙ sym q
+of_admitted (kept func at) m admitted a b p q = one_kept_answer m func at (why_not_kept m func at) a b p q
+of_admitted (slice func at name) m admitted a b p q = one_slice_answer m func at name admitted (why_no_slice m func at name) a b p q
+of_admitted (run func budget args replies) m admitted a b p q = one_run_answer m func (positions_of m func) budget args replies (why_not_run m func args) a b p q
+of_admitted (trace func at budget args replies) m admitted a b p q = one_run_answer m func at budget args replies (why_not_traced m func at args) a b p q
 
 of_module : (order : Order) (m : Module) (a b : Answer) → AnswersModule order m a → AnswersModule order m b → a ≡ b
 of_module order m a b (inl p) (inl q) = one_refused refusal.Module (Refuses m) why_not_admitted a b (admission.one_end m) p q
 of_module order m a b (inl p) (inr q) = absurd (admitted_not_refused m a q.0 p)
 of_module order m a b (inr p) (inl q) = absurd (admitted_not_refused m b p.0 q)
-of_module order m a b (inr p) (inr q) = of_admitted order m a b p.1 q.1
+of_module order m a b (inr p) (inr q) = of_admitted order m p.0 a b p.1 q.1
 
 of_bytes : (order : Order) (bytes : List ℕ) (a b : Answer) → AnswersBytes order bytes a → AnswersBytes order bytes b → a ≡ b
 of_bytes order bytes a b (inl p) (inl q) = one_refused refusal.Module (λ end. Decodes bytes (Err end)) why_not_decoded a b (decoding.one_end bytes) p q

@@ -1,63 +1,58 @@
--- A flat module is sliced, or the slice has a refusal.
-use Rattle.std.proofs.Common.{◌≡◌, ◌<◌, ◌≤◌, ◌⊎◌, ℕ, List, length, Some, inl, inr, refl, arith}
-use Rattle.std.specs.Prelude.{slice_get}
-use Rattle.std.proofs.lemmas.Bool.{cases_lt}
+-- A query about a kept set, or about a slice, has an answer: it is refused, or there are such a set and such a slice.
+use Rattle.std.proofs.Common.{◌≡◌, ◌≤◌, ℕ, List, length, Option, Some, None, refl}
+use Rattle.std.specs.Prelude.{option_and_then}
 use Rattle.report_text.specs.declared.refusal.Refusal.TheVariants as refusal
-use Rattle.report_text.specs.declared.refusal.QueryRefusal.TheVariants as of_query
-use Rattle.wasm_types.specs.declared.module.Body.{Body}
+use Rattle.report_text.specs.declared.refusal.QueryRefusal.{QueryRefusal}
+use Rattle.report_text.specs.KeptTexts.{kept_lines}
 use Rattle.wasm_types.specs.declared.module.Module.{Module}
+use Rattle.wasm_types.specs.Actions.{callees}
 use Rattle.wasm_types.specs.Code.{code_of, count}
+use Rattle.wasm_types.specs.Subset.{IsSealed}
 use Rattle.wasm_types.specs.WellFormed.{ProperName}
-use Rattle.slice_whole.specs.declared.slicing.SliceRefusal.TheVariants as cause
-use Rattle.wassail_top.specs.Answers.{AnswersFlat, AnswersSlice, name_of, slice_answer}
-use Rattle.slice_whole.specs.Flat.{IsFlat}
+use Rattle.flow_domain.specs.Sliced.{func_count, UsesAt, no_calls, sites_at, watched_once}
+use Rattle.slice_whole.specs.declared.slicing.SliceRefusal.{SliceRefusal}
+use Rattle.slice_whole.specs.Slices.{why_not}
+use Rattle.slice_whole.proofs.SomeSets.{some_kept}
+use Rattle.slice_whole.proofs.SomeSliced.{some_sliced}
+use Rattle.wassail_top.specs.Answers.{IsKeptAs, IsSlicedAs, bytes_alone, name_of, slice_answer}
 use Rattle.wassail_top.specs.Orders.{most_name_bytes}
-use Rattle.wassail_top.specs.Refusals.{Answer, refused}
-use Rattle.flow_domain.specs.Sliced.{func_count}
-use Rattle.flow_domain.specs.Sliced.{HasExport}
-use Rattle.slice_whole.proofs.OneSliced.{the_slice}
-use Rattle.slice_whole.proofs.FlatSlice.{own_count, within_get}
-use Rattle.wassail_top.proofs.NotRefuted.{NotRefuted, either}
+use Rattle.wassail_top.specs.Queries.{or_else, why_no_slice, why_not_built, why_not_kept, why_not_seen}
+use Rattle.wassail_top.specs.Refusals.{Answer, refused, why_no_code, why_not_sliced}
+use Rattle.wassail_top.specs.RunAnswers.{AnswersUnless}
+use Rattle.wassail_top.proofs.NotRefuted.{NotRefuted}
+use Rattle.wassail_top.proofs.NoCode.{has_body, has_type}
+use Rattle.wassail_top.proofs.RunLemmas.{or_else_none}
+use Rattle.wassail_top.proofs.SliceQueries.{not_sliced_none}
 
-abbrev Answered : Module → ℕ → ℕ → List ℕ → Type 0
-Answered m f i name = (answer : Answer) × AnswersFlat f i name m answer
+some_unless : (why : Option QueryRefusal) (Holds : Answer → Type 0) → (why ≡ None → NotRefuted ((answer : Answer) × Holds answer))
+    → NotRefuted ((answer : Answer) × AnswersUnless why Holds answer)
+some_unless None Holds here never = here refl never
+some_unless (Some why) Holds here never = never (refused (refusal.Query why), refl)
 
-of_name : (m : Module) (f type i : ℕ) (name : List ℕ) (b : Body) → IsFlat m → ProperName (name_of name) → length name ≤ most_name_bytes
-    → slice_get m.funcs f ≡ Some type → slice_get m.bodies f ≡ Some b → i < count (code_of b.code)
-    → (HasExport m.exports name) ⊎ (HasExport m.exports name → ⊥) → Answered m f i name
-of_name m f type i name b flat proper short at is lt (inl taken) =
-    (refused (refusal.Query of_query.NameTaken), inl (cause.NameTaken, of_query.NameTaken, ((count (code_of b.code), (b, is, refl), lt), taken), refl, refl))
-of_name m f type i name b flat proper short at is lt (inr free) =
-    let s = the_slice m f type i (name_of name) b flat at is lt in
-    (slice_answer s.0 (func_count m) s.1, inr (record { new = s.0; at = s.1; sliced = s.2; proper = proper; free = free; short = short; is = refl }))
+kept_here : (m : Module) (f i : ℕ) → IsSealed m → why_no_code m f ≡ None → NotRefuted ((answer : Answer) × IsKeptAs m f i answer)
+kept_here m f i seal code never =
+    let kind = has_type m f seal.valid code in
+    let body = has_body m f seal.valid code in
+    some_kept (callees m) (length kind.0.results) (watched_once body.0 i) (UsesAt (callees m) no_calls (sites_at (callees m) kind.0 body.0 i)) no_calls
+    (λ found. never (
+      bytes_alone (kept_lines found.0 (count (code_of body.0.code))),
+      record { kind = kind.0; kind_is = kind.1; body = body.0; has_body = body.1; nodes = found.0; exact = found.1; is = refl },
+    ))
 
-of_body : (m : Module) (f type i : ℕ) (name : List ℕ) (b : Body) → IsFlat m → ProperName (name_of name) → length name ≤ most_name_bytes
-    → slice_get m.funcs f ≡ Some type → slice_get m.bodies f ≡ Some b → NotRefuted (Answered m f i name)
-of_body m f type i name b flat proper short at is never = elim (cases_lt i (count (code_of b.code))) [
-  | inl lt ↦ either (HasExport m.exports name) (λ taken. never (of_name m f type i name b flat proper short at is lt taken))
-  | inr le ↦ (
-      let n = count (code_of b.code) in
-      never (refused (refusal.Query (of_query.NoInstruction i n)), inl (cause.NoInstruction n, of_query.NoInstruction i n, ((b, is, refl), le), refl, refl))
-      )
-]
+pub some_kept_answer : (m : Module) (f i : ℕ) → IsSealed m → NotRefuted ((answer : Answer) × AnswersUnless (why_not_kept m f i) (IsKeptAs m f i) answer)
+some_kept_answer m f i seal =
+    some_unless (why_not_kept m f i) (IsKeptAs m f i)
+    (λ none. kept_here m f i seal (or_else_none (why_no_code m f) (or_else (why_not_seen m f i) (why_not_built m f)) none).0)
 
-of_flat : (m : Module) (f i : ℕ) (name : List ℕ) → IsFlat m → ProperName (name_of name) → length name ≤ most_name_bytes → NotRefuted (Answered m f i name)
-of_flat m f i name flat proper short never = elim (cases_lt f (func_count m)) [
-  | inl lt ↦ (
-      let own = own_count m flat.only.no_imports in
-      let same = flat.valid.0.same in
-      let type = within_get m.funcs f (omega arith) in
-      let body = within_get m.bodies f (omega arith) in
-      of_body m f type.0 i name body.0 flat proper short type.1 body.1 never
-      )
-  | inr le ↦ never (refused (refusal.Query (of_query.NoFunction f)), inl (cause.NoFunction, of_query.NoFunction f, le, refl, refl))
-]
+slice_here : (m : Module) (f i : ℕ) (name : List ℕ) → IsSealed m → ProperName (name_of name) → length name ≤ most_name_bytes → why_not m f i name ≡ None
+    → NotRefuted ((answer : Answer) × IsSlicedAs m f i name answer)
+slice_here m f i name seal proper short none never =
+    some_sliced m f i (name_of name) seal.valid seal.no_float none (λ found. never (
+      slice_answer found.0 (func_count m) found.1,
+      record { new = found.0; at = found.1; sliced = found.2; proper = proper; short = short; is = refl },
+    ))
 
-of_kind : (f i : ℕ) (name : List ℕ) (m : Module) → ProperName (name_of name) → length name ≤ most_name_bytes → (IsFlat m) ⊎ (IsFlat m → ⊥)
-    → ((answer : Answer) × AnswersSlice f i name m answer → ⊥) → ⊥
-of_kind f i name m proper short (inl flat) never = of_flat m f i name flat proper short (λ found. never (found.0, inr (flat, found.1)))
-of_kind f i name m proper short (inr other) never = never (refused (refusal.Query of_query.Unbuilt), inl (other, refl))
-
-pub some_slice : (f i : ℕ) (name : List ℕ) (m : Module) → ProperName (name_of name) → length name ≤ most_name_bytes
-    → NotRefuted ((answer : Answer) × AnswersSlice f i name m answer)
-some_slice f i name m proper short never = either (IsFlat m) (λ kind. of_kind f i name m proper short kind never)
+pub some_slice_answer : (m : Module) (f i : ℕ) (name : List ℕ) → IsSealed m → ProperName (name_of name) → length name ≤ most_name_bytes
+    → NotRefuted ((answer : Answer) × AnswersUnless (why_no_slice m f i name) (IsSlicedAs m f i name) answer)
+some_slice_answer m f i name seal proper short =
+    some_unless (why_no_slice m f i name) (IsSlicedAs m f i name) (λ none. slice_here m f i name seal proper short (not_sliced_none m f i name none))

@@ -1,29 +1,33 @@
 -- What the program answers, by its words and by what its source has left (docs/COMMANDS.md).
-use Rattle.std.specs.Prelude.{◌≡◌, ◌⊎◌, ℕ, ◌+◌, ◌≤◌, List, [], length, All, IsUtf8, ⊤, None, Some, Ok, Err}
+use Rattle.std.specs.Prelude.{◌≡◌, ◌⊎◌, ℕ, Bool, ◌+◌, ◌≤◌, List, [], length, All, IsUtf8, ⊤, None, Some, Ok, Err}
 use Rattle.std.specs.declared.option.Option.{Option}
 use Rattle.outside_io.specs.Causes.{Rose}
 use Rattle.outside_io.specs.Whole.{Took, TookAll, TookAtMost}
 use Rattle.report_text.specs.declared.refusal.Refusal.TheVariants as refusal
 use Rattle.report_text.specs.declared.refusal.ModuleRefusal.TheVariants.{TooLong}
-use Rattle.report_text.specs.declared.refusal.QueryRefusal.TheVariants.{Unbuilt}
 use Rattle.report_text.specs.Texts.{slice_line, valid_line}
 use Rattle.report_text.specs.Listing.{listing}
+use Rattle.report_text.specs.KeptTexts.{kept_lines}
 use Rattle.wasm_types.specs.declared.limits.TheConstants.{MOST_BYTES}
 use Rattle.wasm_types.specs.declared.module.Module.{Module}
 use Rattle.wasm_types.specs.declared.module.Name.{Name}
+use Rattle.wasm_types.specs.declared.module.Body.{Body}
+use Rattle.wasm_types.specs.declared.module.FuncType.{FuncType}
+use Rattle.wasm_types.specs.Spaces.{body_of, type_of_func}
+use Rattle.wasm_types.specs.declared.place.Node.{Node}
+use Rattle.wasm_types.specs.Actions.{callees}
+use Rattle.wasm_types.specs.Code.{code_of, count}
 use Rattle.wasm_types.specs.Canon.{canon}
 use Rattle.wasm_types.specs.WellFormed.{IsU8, ProperName}
 use Rattle.wasm_decode.specs.Decode.{Decodes}
 use Rattle.wasm_validate.specs.Admission as admission
 use Rattle.wasm_validate.specs.Admission.{IsAdmitted}
-use Rattle.slice_whole.specs.Flat.{IsFlat}
-use Rattle.flow_domain.specs.Sliced.{func_count, IsSliced}
-use Rattle.slice_whole.specs.Slices.{Refuses}
-use Rattle.flow_domain.specs.Sliced.{HasExport}
+use Rattle.flow_domain.specs.Kept.{Tells}
+use Rattle.flow_domain.specs.Sliced.{func_count, IsSliced, KeptAt}
 use Rattle.wassail_top.specs.Orders.{Order, most_name_bytes}
-use Rattle.wassail_top.specs.Orders.Order.{check, rewrite, list, slice, run, trace}
-use Rattle.wassail_top.specs.Queries.{positions_of, why_not_run, why_not_traced}
-use Rattle.wassail_top.specs.Refusals.{Answer, refused, HasNoRefusal, IsRefused, unless_refused, why_no_code, why_not_decoded, why_not_admitted, why_not_sliced}
+use Rattle.wassail_top.specs.Orders.Order.{check, rewrite, list, kept, slice, run, trace}
+use Rattle.wassail_top.specs.Queries.{positions_of, why_not_kept, why_no_slice, why_not_run, why_not_traced}
+use Rattle.wassail_top.specs.Refusals.{Answer, refused, IsRefused, unless_refused, why_no_code, why_not_decoded, why_not_admitted}
 use Rattle.wassail_top.specs.RunAnswers.{AnswersUnless, IsRunAs, IsStatusOfRun}
 use Rattle.wassail_top.specs.Words.{order_of}
 
@@ -43,30 +47,32 @@ slice_answer new func at = record { status = 0; out = canon new; err = slice_lin
 abbrev pub name_of : List ℕ → Name
 name_of bytes = record { bytes = bytes }
 
--- the module is sliced, under a name that no export of it has
+-- the module is sliced under the name
 pub record IsSlicedAs (m : Module) (f i : ℕ) (name : List ℕ) (answer : Answer) : Type 0 where
   pub new : Module
   pub at : ℕ
   pub sliced : IsSliced m f i (name_of name) new at
   pub proper : ProperName (name_of name)
-  pub free : HasExport m.exports name → ⊥
   pub short : length name ≤ most_name_bytes
   pub is : answer ≡ slice_answer new (func_count m) at
 
--- what `slice` answers about a flat module: the first refusal that holds, or the slice
-abbrev pub AnswersFlat : ℕ → ℕ → List ℕ → Module → Answer → Type 0
-AnswersFlat f i name m answer = IsRefused refusal.Query (Refuses m f i name) (why_not_sliced f i) answer ⊎ IsSlicedAs m f i name answer
-
--- what `slice` answers about a module
-abbrev pub AnswersSlice : ℕ → ℕ → List ℕ → Module → Answer → Type 0
-AnswersSlice f i name m answer = ((IsFlat m → ⊥) × (answer ≡ refused (refusal.Query Unbuilt))) ⊎ (IsFlat m × AnswersFlat f i name m answer)
+-- the lines of the kept set of position i of a function with this type and body
+pub record IsKeptAs (m : Module) (f i : ℕ) (answer : Answer) : Type 0 where
+  pub kind : FuncType
+  pub kind_is : type_of_func m f ≡ Some kind
+  pub body : Body
+  pub has_body : body_of m f ≡ Some body
+  pub nodes : Node → Bool
+  pub exact : Tells nodes (KeptAt (callees m) kind body i)
+  pub is : answer ≡ bytes_alone (kept_lines nodes (count (code_of body.code)))
 
 -- what a command answers about a module that is valid, without a float and within the limits
 abbrev pub AnswersAdmitted : Order → Module → Answer → Type 0
 AnswersAdmitted check m answer = answer ≡ bytes_alone valid_line
 AnswersAdmitted rewrite m answer = answer ≡ bytes_alone (canon m)
 AnswersAdmitted (list func) m answer = answer ≡ unless_refused (why_no_code m func) (bytes_alone (listing m func))
-AnswersAdmitted (slice func at name) m answer = AnswersSlice func at name m answer
+AnswersAdmitted (kept func at) m answer = AnswersUnless (why_not_kept m func at) (IsKeptAs m func at) answer
+AnswersAdmitted (slice func at name) m answer = AnswersUnless (why_no_slice m func at name) (IsSlicedAs m func at name) answer
 -- nothing is seen past the last position
 AnswersAdmitted (run func budget args replies) m answer =
     AnswersUnless (why_not_run m func args) (IsRunAs m func (positions_of m func) budget args replies) answer
@@ -77,7 +83,8 @@ abbrev pub IsTaken : Order → Module → Type 0
 IsTaken check m = ⊤
 IsTaken rewrite m = ⊤
 IsTaken (list func) m = why_no_code m func ≡ None
-IsTaken (slice func at name) m = IsFlat m × HasNoRefusal (Refuses m func at name) (why_not_sliced func at)
+IsTaken (kept func at) m = why_not_kept m func at ≡ None
+IsTaken (slice func at name) m = why_no_slice m func at name ≡ None
 IsTaken (run func budget args replies) m = why_not_run m func args ≡ None
 IsTaken (trace func at budget args replies) m = why_not_traced m func at args ≡ None
 
@@ -86,6 +93,7 @@ abbrev pub HasStatus : Order → Module → ℕ → Type 0
 HasStatus check m status = status ≡ 0
 HasStatus rewrite m status = status ≡ 0
 HasStatus (list func) m status = status ≡ 0
+HasStatus (kept func at) m status = status ≡ 0
 HasStatus (slice func at name) m status = status ≡ 0
 HasStatus (run func budget args replies) m status = IsStatusOfRun m func (positions_of m func) budget args replies status
 HasStatus (trace func at budget args replies) m status = IsStatusOfRun m func at budget args replies status

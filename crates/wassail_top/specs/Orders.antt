@@ -10,6 +10,7 @@ pub data Order : Type 0 where
   check : Order
   rewrite : Order
   list : (func : ℕ) → Order
+  kept : (func at : ℕ) → Order
   slice : (func at : ℕ) (name : List ℕ) → Order
   run : (func budget : ℕ) (args : List ℤ) (replies : List Reply) → Order
   trace : (func at budget : ℕ) (args : List ℤ) (replies : List Reply) → Order
@@ -18,6 +19,7 @@ abbrev pub order_read : Command → Order
 order_read command.Check = check
 order_read command.Rewrite = rewrite
 order_read (command.List func) = list func
+order_read (command.Kept func at) = kept func at
 order_read (command.Slice func at name) = slice func at (string_bytes name)
 order_read (command.Run func budget args replies) = run func budget args.items replies
 order_read (command.Trace func at budget args replies) = trace func at budget args.items replies
@@ -31,6 +33,7 @@ abbrev pub HasShortName : Order → Type 0
 HasShortName check = ⊤
 HasShortName rewrite = ⊤
 HasShortName (list func) = ⊤
+HasShortName (kept func at) = ⊤
 HasShortName (slice func at name) = length name ≤ most_name_bytes
 HasShortName (run func budget args replies) = ⊤
 HasShortName (trace func at budget args replies) = ⊤

@@ -1,5 +1,5 @@
--- Why a run of a function, or what is seen of it at a position, is refused (docs/COMMANDS.md, "Refusals").
-use Rattle.std.specs.Prelude.{ℕ, ℤ, List, [], Option, Some, None, nat_lt, if◌then◌else◌, slice_get}
+-- Why a query about a function, or about a position of it, is refused (docs/COMMANDS.md, "Refusals").
+use Rattle.std.specs.Prelude.{ℕ, ℤ, List, [], Option, Some, None, nat_lt, if◌then◌else◌, option_and_then, slice_get}
 use Rattle.report_text.specs.declared.refusal.QueryRefusal.{QueryRefusal}
 use Rattle.report_text.specs.declared.refusal.QueryRefusal.TheVariants as of_query
 use Rattle.wasm_types.specs.declared.module.Body.{Body}
@@ -15,7 +15,8 @@ use Rattle.wasm_types.specs.Spaces.{body_of, type_of_func, mems_of}
 use Rattle.typed_runs.specs.Start.{least}
 use Rattle.module_run.specs.Runs.{most_run_pages}
 use Rattle.module_run.specs.Values.{values_for}
-use Rattle.wassail_top.specs.Refusals.{why_no_code}
+use Rattle.slice_whole.specs.Slices.{calls_of, why_not}
+use Rattle.wassail_top.specs.Refusals.{why_no_code, why_not_sliced}
 
 -- the first of two causes
 abbrev pub or_else : Option QueryRefusal → Option QueryRefusal → Option QueryRefusal
@@ -84,3 +85,15 @@ why_not_run m f args = or_else (why_no_code m f) (why_no_run m f args)
 -- why `trace` is refused
 abbrev pub why_not_traced : Module → ℕ → ℕ → List ℤ → Option QueryRefusal
 why_not_traced m f i args = or_else (why_no_code m f) (or_else (why_not_seen m f i) (why_no_run m f args))
+
+-- a call stands in live code: what is called isn't followed so far
+abbrev pub why_not_built : Module → ℕ → Option QueryRefusal
+why_not_built m f = if calls_of (body_of m f) then Some of_query.Unbuilt else None
+
+-- why `kept` is refused
+abbrev pub why_not_kept : Module → ℕ → ℕ → Option QueryRefusal
+why_not_kept m f i = or_else (why_no_code m f) (or_else (why_not_seen m f i) (why_not_built m f))
+
+-- why `slice` is refused
+abbrev pub why_no_slice : Module → ℕ → ℕ → List ℕ → Option QueryRefusal
+why_no_slice m f i name = option_and_then (why_not_sliced f i) (why_not m f i name)

@@ -40,10 +40,6 @@ why_no_code m f = if nat_lt f (import_count m) then Some (of_query.Imported f) e
 abbrev pub IsRefused : {Cause Why : Type 0} → (Why → Refusal) → (Cause → Type 0) → (Cause → Option Why) → Answer → Type 0
 IsRefused {Cause} {Why} class Holds why_of answer = (cause : Cause) × (why : Why) × Holds cause × (why_of cause ≡ Some why) × (answer ≡ refused (class why))
 
--- no cause holds that has a refusal
-abbrev pub HasNoRefusal : {Cause Why : Type 0} → (Cause → Type 0) → (Cause → Option Why) → Type 0
-HasNoRefusal {Cause} {Why} Holds why_of = (cause : Cause) (why : Why) → Holds cause → why_of cause ≡ Some why → ⊥
-
 -- why bytes are refused that do not decode
 abbrev pub why_not_decoded : DecodeEnd → Option ModuleRefusal
 why_not_decoded decode.Header = Some of_module.NoHeader
@@ -63,6 +59,9 @@ why_not_admitted admit.Memory = None
 -- why a slice at position i of function f is refused
 abbrev pub why_not_sliced : ℕ → ℕ → SliceRefusal → Option QueryRefusal
 why_not_sliced f i slice.NoFunction = Some (of_query.NoFunction f)
+why_not_sliced f i (slice.Imported g) = Some (of_query.Imported g)
 why_not_sliced f i (slice.NoInstruction count) = Some (of_query.NoInstruction i count)
+why_not_sliced f i (slice.Dead p) = Some (of_query.Dead p.0)
 why_not_sliced f i slice.NameTaken = Some of_query.NameTaken
+why_not_sliced f i slice.Unbuilt = Some of_query.Unbuilt
 why_not_sliced f i slice.Memory = None

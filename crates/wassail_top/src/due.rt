@@ -9,10 +9,9 @@ ghost use Rattle.wasm_validate.specs.Admission.{IsAdmitted};
 ghost use Rattle.report_text.specs.Listing.{listing};
 ghost use Rattle.module_run.specs.Runs.{ends_as};
 ghost use Rattle.ref_interp.specs.Invokes.{Watches};
-ghost use Rattle.wassail_top.specs.Answers.{bytes_alone, IsDue, IsDueTo, AnswersAdmitted, AnswersBytes, AnswersFlat, AnswersModule, AnswersSlice, most_bytes, slice_answer};
-ghost use Rattle.slice_whole.specs.Flat.{IsFlat};
+ghost use Rattle.wassail_top.specs.Answers.{bytes_alone, IsDue, IsDueTo, AnswersAdmitted, AnswersBytes, AnswersModule, IsKeptAs, IsSlicedAs, most_bytes, slice_answer};
 ghost use Rattle.wassail_top.specs.Orders.{HasShortName, most_name_bytes, order_read};
-ghost use Rattle.wassail_top.specs.Queries.{positions_of, why_no_run, why_not_run, why_not_traced};
+ghost use Rattle.wassail_top.specs.Queries.{positions_of, why_no_run, why_no_slice, why_not_kept, why_not_run, why_not_traced};
 ghost use Rattle.wassail_top.specs.Refusals.{refused, unless_refused, why_no_code};
 ghost use Rattle.wassail_top.specs.Reply.{reply_answer};
 ghost use Rattle.wassail_top.specs.RunAnswers.{AnswersUnless, IsRunAs, run_answer};
@@ -24,10 +23,11 @@ use crate::words::{Command, WordsEnd, parse_words};
 use module_run::{RunEnd, RunRefusal, run, values_of};
 use outside_io::{ReadEnd, Source, read_all};
 use report_text::{
-    ModuleRefusal, Outcome, QueryRefusal, Refusal, list_text, refusal_text, run_text, slice_text,
-    valid_text,
+    ModuleRefusal, Outcome, QueryRefusal, Refusal, kept_text, list_text, refusal_text, run_text,
+    slice_text, valid_text,
 };
-use slice_whole::{Sliced, is_flat, slice};
+use slice_closure::close;
+use slice_whole::{Sliced, calls, slice};
 use sqlite_items::Items;
 use stack_names::names;
 use std::alloc::Global;
@@ -128,6 +128,7 @@ fn answer_admitted(alloc: Global, command: Command, valid: ValidModule) -> Resul
             err: Vec::new(alloc),
         }),
         Command::List { func } => answer_list(alloc, &valid, func),
+        Command::Kept { func, at } => answer_kept(alloc, &valid, func, at),
         Command::Slice { func, at, name } => answer_slice(alloc, valid, func, at, name.as_str()),
         Command::Run {
             func,
@@ -258,6 +259,31 @@ fn write_run(alloc: Global, end: RunEnd) -> Result<Reply, NoMemory>
     })
 }
 
+// What `kept` answers about an admitted module.
+fn answer_kept(alloc: Global, valid: &ValidModule, func: u32, at: u32) -> Result<Reply, NoMemory>
+    requires admitted { IsAdmitted valid.now }
+    ensures { IfOk result (λ reply. AnswersUnless (why_not_kept valid.now func at) (IsKeptAs valid.now func at) (reply_answer reply)) }
+{
+    if let Some(cause) = code_refusal(valid, func) {
+        return refuse(alloc, Refusal::Query(cause));
+    }
+    if let Some(cause) = sight_refusal(alloc, valid, func, at)? {
+        return refuse(alloc, Refusal::Query(cause));
+    }
+    let Some(body) = valid.module().body(func) else {
+        unreachable!()
+    };
+    if calls(body.code.as_slice()) {
+        return refuse(alloc, Refusal::Query(QueryRefusal::Unbuilt));
+    }
+    let kept = close(alloc, valid, func, Pos(at))?;
+    Ok(Reply {
+        status: Status::Answered,
+        out: kept_text(alloc, &kept, body.count())?,
+        err: Vec::new(alloc),
+    })
+}
+
 // What `slice` answers about an admitted module.
 fn answer_slice(
     alloc: Global,
@@ -269,27 +295,7 @@ fn answer_slice(
     requires admitted { IsAdmitted valid }
     requires short { length (canon valid) ≤ most_bytes }
     requires name { length name.now ≤ most_name_bytes }
-    ensures { IfOk result (λ reply. AnswersSlice func at name.now valid (reply_answer reply)) }
-{
-    if is_flat(valid.module()) {
-        slice_flat(alloc, valid, func, at, name)
-    } else {
-        refuse(alloc, Refusal::Query(QueryRefusal::Unbuilt))
-    }
-}
-
-// What `slice` answers about a flat module.
-fn slice_flat(
-    alloc: Global,
-    valid: ValidModule,
-    func: u32,
-    at: u32,
-    name: &str,
-) -> Result<Reply, NoMemory>
-    requires flat { IsFlat valid }
-    requires short { length (canon valid) ≤ most_bytes }
-    requires name { length name.now ≤ most_name_bytes }
-    ensures { IfOk result (λ reply. AnswersFlat func at name.now valid (reply_answer reply)) }
+    ensures { IfOk result (λ reply. AnswersUnless (why_no_slice valid func at name.now) (IsSlicedAs valid func at name.now) (reply_answer reply)) }
 {
     match slice(alloc, valid, func, Pos(at), name) {
         Ok(sliced) => write_slice(alloc, &sliced),

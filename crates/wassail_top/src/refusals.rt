@@ -83,8 +83,11 @@ pub fn slice_refusal(end: SliceRefusal, func: u32, at: u32) -> Option<QueryRefus
 {
     match end {
         SliceRefusal::NoFunction => Some(QueryRefusal::NoFunction { func }),
+        SliceRefusal::Imported { func } => Some(QueryRefusal::Imported { func }),
         SliceRefusal::NoInstruction { count } => Some(QueryRefusal::NoInstruction { at, count }),
+        SliceRefusal::Dead { at } => Some(QueryRefusal::Dead { at: at.0 }),
         SliceRefusal::NameTaken => Some(QueryRefusal::NameTaken),
+        SliceRefusal::Unbuilt => Some(QueryRefusal::Unbuilt),
         SliceRefusal::Memory => None,
     }
 }

@@ -276,6 +276,7 @@ fn refuses_words_and_reads_nothing(rt: HostRuntime) -> Result<(), Fail> {
         &["slice", "0", "x", "s"],
         &["slice", "0", "4294967296", "s"],
         &["slice", "0", "0"],
+        &["kept", "0"],
     ] {
         let got = end(&rt, words, HEADER, NEVER, NEVER)?;
         assert_eq!(rt; got, expected(&rt, 2, 8, b"", "wassail: words refused\n")?);
@@ -305,9 +306,9 @@ fn refuses_a_name_of_one_byte_too_many(rt: HostRuntime) -> Result<(), Fail> {
     Ok(())
 }
 
-// The addition with the slice of its first instruction, under the name `s`: `local.get 0; i32.const 0; drop; drop; i32.const 0`.
+// The addition with the slice of its first instruction, under the name `s`: `local.get 0; drop; i32.const 0`.
 const SLICED: &[u8] =
-    b"\0asm\x01\0\0\0\x01\x07\x01\x60\x02\x7F\x7F\x01\x7F\x03\x03\x02\x00\x00\x07\x05\x01\x01s\x00\x01\x0A\x14\x02\x07\x00\x20\x00\x20\x01\x6A\x0B\x0A\x00\x20\x00\x41\x00\x1A\x1A\x41\x00\x0B";
+    b"\0asm\x01\0\0\0\x01\x07\x01\x60\x02\x7F\x7F\x01\x7F\x03\x03\x02\x00\x00\x07\x05\x01\x01\x73\x00\x01\x0A\x11\x02\x07\x00\x20\x00\x20\x01\x6A\x0B\x07\x00\x20\x00\x1A\x41\x00\x0B";
 
 #[test]
 fn slices_the_addition(rt: HostRuntime) -> Result<(), Fail> {
@@ -323,10 +324,7 @@ fn slices_the_addition(rt: HostRuntime) -> Result<(), Fail> {
 
 #[test]
 fn refuses_what_is_not_there_to_slice(rt: HostRuntime) -> Result<(), Fail> {
-    // A type, a function and a block.
-    let blocks =
-        b"\0asm\x01\0\0\0\x01\x04\x01\x60\x00\x00\x03\x02\x01\x00\x0A\x07\x01\x05\x00\x02\x40\x0B\x0B";
-    let cases: [(&[u8], [&str; 4], &str); 4] = [
+    let cases: [(&[u8], [&str; 4], &str); 7] = [
         (
             ADD,
             ["slice", "0", "9", "s"],
@@ -338,13 +336,28 @@ fn refuses_what_is_not_there_to_slice(rt: HostRuntime) -> Result<(), Fail> {
             "wassail: query refused: no function 1\n",
         ),
         (
+            HOST,
+            ["slice", "0", "0", "s"],
+            "wassail: query refused: function 0 is imported\n",
+        ),
+        (
+            RETURNING,
+            ["slice", "0", "2", "s"],
+            "wassail: query refused: instruction 2 is dead\n",
+        ),
+        (
             SLICED,
             ["slice", "0", "0", "s"],
             "wassail: query refused: export name taken\n",
         ),
         (
-            blocks,
-            ["slice", "0", "0", "s"],
+            RECURSIVE,
+            ["slice", "0", "8", "s"],
+            "wassail: query refused: not built yet\n",
+        ),
+        (
+            HOST,
+            ["slice", "1", "3", "s"],
             "wassail: query refused: not built yet\n",
         ),
     ];
@@ -722,5 +735,177 @@ fn runs_with_a_host(rt: HostRuntime) -> Result<(), Fail> {
         let got = end_of(&rt, words, bytes)?;
         assert_eq!(rt; got, told(&rt, status, lines)?);
     }
+    Ok(())
+}
+
+// A mutable global, `(i32) -> i32`: `block; local.get 0; br_if 0; unreachable; end; global.get 0`.
+const LEFT_BY_TRAP: &[u8] =
+    b"\0asm\x01\0\0\0\x01\x06\x01\x60\x01\x7F\x01\x7F\x03\x02\x01\x00\x06\x06\x01\x7F\x01\x41\x00\x0B\x0A\x0E\x01\x0C\x00\x02\x40\x20\x00\x0D\x00\x00\x0B\x23\x00\x0B";
+
+// With its slice at 4: `global.get 0`.
+const LEFT_BY_TRAP_4: &[u8] =
+    b"\0asm\x01\0\0\0\x01\x06\x01\x60\x01\x7F\x01\x7F\x03\x03\x02\x00\x00\x06\x06\x01\x7F\x01\x41\x00\x0B\x07\x05\x01\x01\x73\x00\x01\x0A\x13\x02\x0C\x00\x02\x40\x20\x00\x0D\x00\x00\x0B\x23\x00\x0B\x04\x00\x23\x00\x0B";
+
+// With its slice at 1: `block; local.get 0; drop; end; i32.const 0`.
+const LEFT_BY_TRAP_1: &[u8] =
+    b"\0asm\x01\0\0\0\x01\x06\x01\x60\x01\x7F\x01\x7F\x03\x03\x02\x00\x00\x06\x06\x01\x7F\x01\x41\x00\x0B\x07\x05\x01\x01\x73\x00\x01\x0A\x19\x02\x0C\x00\x02\x40\x20\x00\x0D\x00\x00\x0B\x23\x00\x0B\x0A\x00\x02\x40\x20\x00\x1A\x0B\x41\x00\x0B";
+
+// `(i32) -> ()`: `block; loop; local.get 0; i32.eqz; br_if 1; local.get 0; i32.const 1; i32.sub; local.set 0; nop; br 0; end; end`.
+const LOOP: &[u8] =
+    b"\0asm\x01\0\0\0\x01\x05\x01\x60\x01\x7F\x00\x03\x02\x01\x00\x0A\x19\x01\x17\x00\x02\x40\x03\x40\x20\x00\x45\x0D\x01\x20\x00\x41\x01\x6B\x21\x00\x01\x0C\x00\x0B\x0B\x0B";
+
+// With its slice at 5: the same without the `nop`.
+const LOOP_5: &[u8] =
+    b"\0asm\x01\0\0\0\x01\x05\x01\x60\x01\x7F\x00\x03\x03\x02\x00\x00\x07\x05\x01\x01\x73\x00\x01\x0A\x30\x02\x17\x00\x02\x40\x03\x40\x20\x00\x45\x0D\x01\x20\x00\x41\x01\x6B\x21\x00\x01\x0C\x00\x0B\x0B\x0B\x16\x00\x02\x40\x03\x40\x20\x00\x45\x0D\x01\x20\x00\x41\x01\x6B\x21\x00\x0C\x00\x0B\x0B\x0B";
+
+// `(i32) -> i32`, one i32 local: `i32.const 7; local.set 1; local.get 0; if; i32.const 9; local.set 1; end; local.get 1`.
+const ARM: &[u8] =
+    b"\0asm\x01\0\0\0\x01\x06\x01\x60\x01\x7F\x01\x7F\x03\x02\x01\x00\x0A\x15\x01\x13\x01\x01\x7F\x41\x07\x21\x01\x20\x00\x04\x40\x41\x09\x21\x01\x0B\x20\x01\x0B";
+
+// A mutable global, `() -> i32`: `block i32; i32.const 3; global.set 0; i32.const 4; end; drop; i32.const 5`.
+const BLOCK_VALUE: &[u8] =
+    b"\0asm\x01\0\0\0\x01\x05\x01\x60\x00\x01\x7F\x03\x02\x01\x00\x06\x06\x01\x7F\x01\x41\x00\x0B\x0A\x10\x01\x0E\x00\x02\x7F\x41\x03\x24\x00\x41\x04\x0B\x1A\x41\x05\x0B";
+
+// With its slice at 2: `block i32; i32.const 3; global.set 0; i32.const 0; end; drop; i32.const 0`.
+const BLOCK_VALUE_2: &[u8] =
+    b"\0asm\x01\0\0\0\x01\x05\x01\x60\x00\x01\x7F\x03\x03\x02\x00\x00\x06\x06\x01\x7F\x01\x41\x00\x0B\x07\x05\x01\x01\x73\x00\x01\x0A\x1F\x02\x0E\x00\x02\x7F\x41\x03\x24\x00\x41\x04\x0B\x1A\x41\x05\x0B\x0E\x00\x02\x7F\x41\x03\x24\x00\x41\x00\x0B\x1A\x41\x00\x0B";
+
+// A mutable global, `(i32) -> i32`: `block i32; i32.const 7; local.get 0; br_if 0; global.get 0; i32.add; end`.
+const CARRIED: &[u8] =
+    b"\0asm\x01\0\0\0\x01\x06\x01\x60\x01\x7F\x01\x7F\x03\x02\x01\x00\x06\x06\x01\x7F\x01\x41\x00\x0B\x0A\x10\x01\x0E\x00\x02\x7F\x41\x07\x20\x00\x0D\x00\x23\x00\x6A\x0B\x0B";
+
+// With its slice at 4: `block i32; i32.const 0; local.get 0; br_if 0; global.get 0; drop; drop; i32.const 0; end`.
+const CARRIED_4: &[u8] =
+    b"\0asm\x01\0\0\0\x01\x06\x01\x60\x01\x7F\x01\x7F\x03\x03\x02\x00\x00\x06\x06\x01\x7F\x01\x41\x00\x0B\x07\x05\x01\x01\x73\x00\x01\x0A\x22\x02\x0E\x00\x02\x7F\x41\x07\x20\x00\x0D\x00\x23\x00\x6A\x0B\x0B\x11\x00\x02\x7F\x41\x00\x20\x00\x0D\x00\x23\x00\x1A\x1A\x41\x00\x0B\x0B";
+
+// `(i32) -> ()`, one i32 local: `block; loop; local.get 0; i32.eqz; br_if 1; block; loop; local.get 1; br_if 1; i32.const 1; local.set 1; br 0; end; end;
+// local.get 0; i32.const 1; i32.sub; local.set 0; br 0; end; end`.
+const LOOPS: &[u8] =
+    b"\0asm\x01\0\0\0\x01\x05\x01\x60\x01\x7F\x00\x03\x02\x01\x00\x0A\x2A\x01\x28\x01\x01\x7F\x02\x40\x03\x40\x20\x00\x45\x0D\x01\x02\x40\x03\x40\x20\x01\x0D\x01\x41\x01\x21\x01\x0C\x00\x0B\x0B\x20\x00\x41\x01\x6B\x21\x00\x0C\x00\x0B\x0B\x0B";
+
+// With its slice at 12, without the inner block.
+const LOOPS_12: &[u8] =
+    b"\0asm\x01\0\0\0\x01\x05\x01\x60\x01\x7F\x00\x03\x03\x02\x00\x00\x07\x05\x01\x01\x73\x00\x01\x0A\x43\x02\x28\x01\x01\x7F\x02\x40\x03\x40\x20\x00\x45\x0D\x01\x02\x40\x03\x40\x20\x01\x0D\x01\x41\x01\x21\x01\x0C\x00\x0B\x0B\x20\x00\x41\x01\x6B\x21\x00\x0C\x00\x0B\x0B\x0B\x18\x01\x01\x7F\x02\x40\x03\x40\x20\x00\x45\x0D\x01\x20\x00\x41\x01\x6B\x21\x00\x0C\x00\x0B\x0B\x0B";
+
+// The same with `br_if 3` in place of the second `br_if 1`.
+const LOOPS_OUT: &[u8] =
+    b"\0asm\x01\0\0\0\x01\x05\x01\x60\x01\x7F\x00\x03\x02\x01\x00\x0A\x2A\x01\x28\x01\x01\x7F\x02\x40\x03\x40\x20\x00\x45\x0D\x01\x02\x40\x03\x40\x20\x01\x0D\x03\x41\x01\x21\x01\x0C\x00\x0B\x0B\x20\x00\x41\x01\x6B\x21\x00\x0C\x00\x0B\x0B\x0B";
+
+// With its slice at 12, which is the whole body.
+const LOOPS_OUT_12: &[u8] =
+    b"\0asm\x01\0\0\0\x01\x05\x01\x60\x01\x7F\x00\x03\x03\x02\x00\x00\x07\x05\x01\x01\x73\x00\x01\x0A\x53\x02\x28\x01\x01\x7F\x02\x40\x03\x40\x20\x00\x45\x0D\x01\x02\x40\x03\x40\x20\x01\x0D\x03\x41\x01\x21\x01\x0C\x00\x0B\x0B\x20\x00\x41\x01\x6B\x21\x00\x0C\x00\x0B\x0B\x0B\x28\x01\x01\x7F\x02\x40\x03\x40\x20\x00\x45\x0D\x01\x02\x40\x03\x40\x20\x01\x0D\x03\x41\x01\x21\x01\x0C\x00\x0B\x0B\x20\x00\x41\x01\x6B\x21\x00\x0C\x00\x0B\x0B\x0B";
+
+#[test]
+fn tells_what_a_position_depends_on(rt: HostRuntime) -> Result<(), Fail> {
+    let cases: [(&[u8], &str, u8, &str); 15] = [
+        (ADD, "kept 0 0", 0, "0\n"),
+        (LEFT_BY_TRAP, "kept 0 4", 0, "4\n"),
+        (LEFT_BY_TRAP, "kept 0 1", 0, "0\n1\n"),
+        (LOOP, "kept 0 5", 0, "0\n1\n2\n3\n4\n5\n6\n7\n8\n10\n"),
+        (ARM, "kept 0 6", 0, "0\n1\n2\n3\n4\n5\n6\n"),
+        (BLOCK_VALUE, "kept 0 2", 0, "0\n1\n2\n"),
+        (CARRIED, "kept 0 4", 0, "0\n2\n3\n4\n"),
+        (LOOPS, "kept 0 12", 0, "0\n1\n2\n3\n4\n12\n13\n14\n15\n16\n"),
+        (
+            LOOPS_OUT,
+            "kept 0 12",
+            0,
+            "0\n1\n2\n3\n4\n5\n6\n7\n8\n9\n10\n11\n12\n13\n14\n15\n16\n",
+        ),
+        (
+            HOST,
+            "kept 1 3",
+            6,
+            "wassail: query refused: not built yet\n",
+        ),
+        (
+            RETURNING,
+            "kept 0 2",
+            6,
+            "wassail: query refused: instruction 2 is dead\n",
+        ),
+        (
+            ADD,
+            "kept 0 3",
+            6,
+            "wassail: query refused: no instruction 3, function has 3\n",
+        ),
+        (
+            LOOPS,
+            "trace 0 12 100 2",
+            0,
+            "take\nleave 2\ntake\nleave 1\nreturned\nturns 3\n",
+        ),
+        (
+            LOOPS_12,
+            "trace 1 5 100 2",
+            0,
+            "take\nleave 2\ntake\nleave 1\nreturned\nturns 2\n",
+        ),
+        (LOOPS_OUT, "trace 0 12 100 2", 0, "returned\nturns 1\n"),
+    ];
+    for (bytes, words, status, lines) in cases {
+        let got = end_of(&rt, words, bytes)?;
+        assert_eq!(rt; got, told(&rt, status, lines)?);
+    }
+    Ok(())
+}
+
+#[test]
+fn slices_functions_that_call_nothing(rt: HostRuntime) -> Result<(), Fail> {
+    let cases: [(&[u8], &str, &[u8], &str); 7] = [
+        (
+            LEFT_BY_TRAP,
+            "slice 0 4 s",
+            LEFT_BY_TRAP_4,
+            "function 1 instruction 0\n",
+        ),
+        (
+            LEFT_BY_TRAP,
+            "slice 0 1 s",
+            LEFT_BY_TRAP_1,
+            "function 1 instruction 1\n",
+        ),
+        (LOOP, "slice 0 5 s", LOOP_5, "function 1 instruction 5\n"),
+        (
+            BLOCK_VALUE,
+            "slice 0 2 s",
+            BLOCK_VALUE_2,
+            "function 1 instruction 2\n",
+        ),
+        (
+            CARRIED,
+            "slice 0 4 s",
+            CARRIED_4,
+            "function 1 instruction 4\n",
+        ),
+        (
+            LOOPS,
+            "slice 0 12 s",
+            LOOPS_12,
+            "function 1 instruction 5\n",
+        ),
+        (
+            LOOPS_OUT,
+            "slice 0 12 s",
+            LOOPS_OUT_12,
+            "function 1 instruction 12\n",
+        ),
+    ];
+    for (bytes, words, sliced, line) in cases {
+        let got = end_of(&rt, words, bytes)?;
+        assert_eq!(rt; got, expected(&rt, 0, 0, sliced, line)?);
+    }
+    Ok(())
+}
+
+// The slice at the load of the function that counts bytes passes it as often, and with the same values.
+#[test]
+fn traces_a_slice(rt: HostRuntime) -> Result<(), Fail> {
+    let got = end_of(&rt, "slice 1 5 s", PRINT)?;
+    let seen =
+        "take 1024\nleave 104\ntake 1025\nleave 105\ntake 1026\nleave 0\nreturned 0\nturns 2\n";
+    let again = end_of(&rt, "trace 3 5 100 1024", &got.out)?;
+    assert_eq!(rt; again, told(&rt, 0, seen)?);
     Ok(())
 }

@@ -4,9 +4,9 @@ ghost use Rattle.std.specs.Prelude.{◌≡◌, map, IfOk};
 ghost use Rattle.std.specs.String.{string_bytes};
 ghost use Rattle.run_words.specs.Words.{reply_of, value_of};
 ghost use Rattle.wassail_top.specs.Orders.{order_read, HasShortName};
-ghost use Rattle.wassail_top.specs.Orders.Order.{list, slice};
+ghost use Rattle.wassail_top.specs.Orders.Order.{kept, list, slice};
 ghost use Rattle.wassail_top.specs.Parses.{Parses, ReadsArgs, ReadsGiven, ReadsReplies};
-ghost use Rattle.wassail_top.specs.Words.{alone, before_slash, behind_slash, each, given_of, one, order_of, running, tracing, two_and_name};
+ghost use Rattle.wassail_top.specs.Words.{alone, before_slash, behind_slash, each, given_of, one, order_of, running, tracing, two, two_and_name};
 
 use run_words::{ReplyEnd, parse_number, parse_reply, parse_value};
 use sqlite_items::Items;
@@ -24,6 +24,11 @@ pub enum Command {
     /// Print the code of function `func`.
     List {
         func: u32,
+    },
+    /// Print the nodes that position `at` of function `func` depends on.
+    Kept {
+        func: u32,
+        at: u32,
     },
     /// Write the module with a slice of function `func` at position `at` appended, exported as `name`.
     Slice {
@@ -78,6 +83,7 @@ pub fn parse_words(alloc: Global, words: &[String]) -> Result<Command, WordsEnd>
         "check" => parse_alone(Command::Check, rest),
         "rewrite" => parse_alone(Command::Rewrite, rest),
         "list" => parse_list(rest),
+        "kept" => parse_kept(rest),
         "slice" => parse_slice(rest),
         "run" => parse_run(alloc, rest),
         "trace" => parse_trace(alloc, rest),
@@ -108,6 +114,19 @@ fn parse_list(rest: &[String]) -> Result<Command, WordsEnd>
     };
     let func = parse_number(func.as_bytes()).ok_or(WordsEnd::Refused)?;
     Ok(Command::List { func })
+}
+
+// Two numbers.
+fn parse_kept(rest: &[String]) -> Result<Command, WordsEnd>
+    ensures parses { Parses (two kept (map string_bytes rest.now)) result }
+    ensures short { IfOk result (λ command. HasShortName (order_read command)) }
+{
+    let [func, at] = rest else {
+        return Err(WordsEnd::Refused);
+    };
+    let func = parse_number(func.as_bytes()).ok_or(WordsEnd::Refused)?;
+    let at = parse_number(at.as_bytes()).ok_or(WordsEnd::Refused)?;
+    Ok(Command::Kept { func, at })
 }
 
 // Two numbers and a name.

@@ -18,9 +18,11 @@ pub invariant_of-closing-2 : goal.invariant_of-closing-2
 invariant_of-closing-2 c =
     let t = c.args.tables in
     let e : 2 * c.count.result + 1 ≡ 2 * count (code_of t.body.now.code) + 1 = omega (arith, c.count.ensures, length-flatten (code_of t.body.now.code)) in
-    let spots : length t.nest.now ≡ count (code_of t.body.now.code) = ap length c.requires.made.nest.is ∙ length_spots true None 0 (code_of t.body.now.code) 0 in
+    let spots : length t.nest.now ≡ count (code_of t.body.now.code) = ap length c.requires.made.nest.is
+    ∙ length_spots true None 0 (code_of t.body.now.code) 0 in
     record {
-      fits = tables_fit c.args.m.now c.args.func c.args.at t c.requires.made (2 * c.count.result + 1) c.locs_bound-locs.result e c.locs_bound-locs.ensures.below;
+      fits = tables_fit c.args.m.now c.args.func c.args.at t c.requires.made
+          (2 * c.count.result + 1) c.locs_bound-locs.result e c.locs_bound-locs.ensures.below;
       nodes = omega arith;
       pointed = rw c.deref.ensures.value c.in_ok-points.ensures;
     }

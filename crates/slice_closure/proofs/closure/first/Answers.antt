@@ -15,6 +15,7 @@ returns c =
     let empty : c.new-list.result.items ≡ [] = c.new-list.ensures.items in
     let makers = rw c.operands.ensures at c.in_ok-push_makers.ensures in
     subst (λ (z : List ℕ). Gains (Numbered N (First t c.args.at)) z c.push_makers.new.next.items) empty
-    (numbered_both N (λ j. j ≡ Keeps (At c.args.at.0)) (FromEach (operands_in t.names.now.positions c.args.at.0) Maker) c.new-list.result.items c.push.new.next.items
+    (numbered_both N (λ j. j ≡ Keeps (At c.args.at.0)) (FromEach
+    (operands_in t.names.now.positions c.args.at.0) Maker) c.new-list.result.items c.push.new.next.items
     c.push_makers.new.next.items
     c.in_ok-push.ensures makers)

@@ -1,7 +1,6 @@
-use Rattle.std.proofs.Common.{◌≡◌, ◌≤◌, ◌<◌, ◌+◌, ◌∙◌, length, drop, sym, ap, arith, true}
+use Rattle.std.proofs.Common.{◌≡◌, ◌≤◌, ◌<◌, ◌+◌, ◌∙◌, length, drop, sym, arith, true}
 use Rattle.wasm_types.specs.Code.{code_of, count, is_plain}
 use Rattle.wasm_types.proofs.CodeLemmas.{plain_is, count-next, code-next}
-use Rattle.slice_whole.specs.Calling.{calls_in}
 use Rattle.slice_whole.proofs.LiveCalls.{after_call, after_last, after_next, quiet}
 use Rattle.slice_whole.proofs.calling.+calls.Goals as goal
 

@@ -1,8 +1,6 @@
-use Rattle.std.proofs.Common.{◌≡◌, ◌≤◌, ◌<◌, ◌+◌, ◌-◌, ◌^◌, ◌∙◌, Bool, true, false, Option, None, Some, length, slice_get, nat_eq, refl, sym, ap, subst, arith}
+use Rattle.std.proofs.Common.{◌≡◌, ◌≤◌, ◌<◌, ◌+◌, ◌-◌, ◌^◌, ◌∙◌, None, Some, length, slice_get, nat_eq, refl, sym, ap, subst, arith}
 use Rattle.std.specs.Option.{option_copied}
-use Rattle.wasm_types.specs.declared.module.Export.{Export}
 use Rattle.wasm_types.specs.declared.module.Module.{Module}
-use Rattle.wasm_types.specs.declared.instr.Instr.{Instr}
 use Rattle.wasm_types.specs.declared.place.LimitKind.TheVariants as limit
 use Rattle.wasm_types.specs.Code.{code_of, count, flatten}
 use Rattle.wasm_types.specs.Sizes.{positions}

@@ -1,4 +1,4 @@
-use Rattle.std.proofs.Common.{◌∙◌, sym, ap, arith}
+use Rattle.std.proofs.Common.{◌∙◌, ap, arith}
 use Rattle.wasm_types.specs.declared.module.Module.{Module}
 use Rattle.flow_domain.specs.Sliced.{func_count}
 use Rattle.slice_whole.proofs.Made.{Made, name_proper, made_is}

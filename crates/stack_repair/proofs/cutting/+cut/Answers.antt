@@ -4,7 +4,7 @@ use Rattle.wasm_types.specs.declared.instr.Instr.TheVariants as v
 use Rattle.wasm_types.specs.Code.{code_of, count, done, onto, is_plain}
 use Rattle.wasm_types.proofs.CodeLemmas.{plain_is, count-next, code-next}
 use Rattle.stack_names.proofs.SkipLemmas.{count-block, count-loop, count-if, count-one}
-use Rattle.stack_repair.specs.Told.{put_in, put_onward, told}
+use Rattle.stack_repair.specs.Told.{put_in, told}
 use Rattle.stack_repair.proofs.Steps.{count_some, puts_next, kept_plain, kept_block, kept_loop, kept_if}
 use Rattle.stack_repair.proofs.cutting.+cut.Goals as goal
 

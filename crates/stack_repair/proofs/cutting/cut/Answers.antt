@@ -2,7 +2,7 @@ use Rattle.std.proofs.Common.{◌≡◌, ◌≤◌, ◌∙◌, None, Some, lengt
 use Rattle.std.specs.Option.{option_copied}
 use Rattle.wasm_types.specs.declared.module.Module.{Module}
 use Rattle.wasm_types.specs.declared.place.LimitKind.TheVariants as limit
-use Rattle.wasm_types.specs.Code.{code_of, count, flatten}
+use Rattle.wasm_types.specs.Code.{code_of, flatten}
 use Rattle.wasm_types.specs.Sizes.{positions}
 use Rattle.wasm_types.specs.Spaces.{type_of_func, body_of, HasBody}
 use Rattle.wasm_types.proofs.CodeLemmas.{length-flatten}

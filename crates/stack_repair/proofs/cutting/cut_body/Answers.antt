@@ -1,15 +1,14 @@
-use Rattle.std.proofs.Common.{◌≡◌, ◌∙◌, [], List, replicate, length, sym, ap, ap₂, arith}
+use Rattle.std.proofs.Common.{◌≡◌, ◌∙◌, [], List, replicate, ap, ap₂, arith}
 use Rattle.std.proofs.lemmas.List.{append-nil}
 use Rattle.wasm_types.specs.declared.module.ValType.{ValType}
 use Rattle.wasm_types.specs.declared.module.ValType.TheVariants.{I32}
 use Rattle.wasm_types.specs.declared.module.LocalRun.{LocalRun}
-use Rattle.wasm_types.specs.declared.module.Body.{Body}
 use Rattle.wasm_types.specs.declared.instr.Instr.{Instr}
 use Rattle.wasm_types.specs.Code.{code_of, count, list_of}
 use Rattle.wasm_types.specs.Marked.{Marked, marks, unmarked, first_mark}
 use Rattle.wasm_types.proofs.CodeLemmas.{length-flatten}
 use Rattle.flow_domain.specs.KeptSets.{holds}
-use Rattle.stack_repair.specs.Told.{Told, noted_to, put_in, told_of}
+use Rattle.stack_repair.specs.Told.{Told, noted_to, put_in}
 use Rattle.stack_repair.proofs.cutting.cut_body.Goals as goal
 
 pub count-requires : goal.count-requires

@@ -1,4 +1,4 @@
-use Rattle.std.proofs.Common.{◌≡◌, ◌≤◌}
+use Rattle.std.proofs.Common.{◌≡◌}
 use Rattle.wasm_types.specs.Marked.{Marked}
 use Rattle.flow_domain.specs.Cut.{drops}
 use Rattle.stack_repair.specs.Told.{Puts}

@@ -3,7 +3,7 @@ use Rattle.std.specs.String.{string_bytes}
 use Rattle.wasm_validate.specs.Admission.{IsAdmitted}
 use Rattle.wassail_top.specs.Answers.{HasStatus}
 use Rattle.wassail_top.specs.Reply.{reply_answer}
-use Rattle.wassail_top.proofs.Calm.{not_write_fault, read_failed, refused_words, only_refused_words}
+use Rattle.wassail_top.proofs.Calm.{not_memory, not_write_fault, read_failed, refused_words, only_refused_words}
 use Rattle.wassail_top.proofs.Complete.{succeeds}
 use Rattle.wassail_top.proofs.HeadlineLemmas.{headline}
 use Rattle.wassail_top.proofs.top.wassail.Goals as goal
@@ -17,6 +17,11 @@ pub returns-in-Ok-deliver-clause-write_fault : goal.returns-in-Ok-deliver-clause
 returns-in-Ok-deliver-clause-write_fault g c =
     λ four. absurd (not_write_fault (map string_bytes c.args.words.now) _ _ _ _ (reply_answer c.in-Ok.reply) c.in-Ok.ensures.due
     (sym c.code-in-Ok-deliver.ensures ∙ four))
+
+pub returns-in-Ok-deliver-clause-memory : goal.returns-in-Ok-deliver-clause-memory
+returns-in-Ok-deliver-clause-memory g c =
+    λ five. absurd (not_memory (map string_bytes c.args.words.now) _ _ _ _ (reply_answer c.in-Ok.reply) c.in-Ok.ensures.due
+    (sym c.code-in-Ok-deliver.ensures ∙ five))
 
 pub returns-in-Ok-deliver-clause-words : goal.returns-in-Ok-deliver-clause-words
 returns-in-Ok-deliver-clause-words g c =

@@ -5,4 +5,5 @@ use Rattle.slice_closure.specs.Next.{FromEach, Passes}
 use Rattle.slice_closure.proofs.search.Closing.push_before.Given as goal
 
 abbrev pub invariant-loop-earlier : goal.invariant-loop-earlier
-invariant-loop-earlier l = Gains (Numbered l.self.numbering.nodes (FromEach (take l.earlier-index l.earlier-items) (Passes l.self.tables l.loc))) l.initial.next.items l.next.items
+invariant-loop-earlier l = Gains (Numbered l.self.numbering.nodes (FromEach (take l.earlier-index l.earlier-items)
+    (Passes l.self.tables l.loc))) l.initial.next.items l.next.items

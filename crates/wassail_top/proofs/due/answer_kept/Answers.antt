@@ -1,0 +1,52 @@
+use Rattle.std.proofs.Common.{◌≡◌, ◌∙◌, ℕ, Bool, false, List, [], Some, None, Option, ap, ap₂, sym, subst}
+use Rattle.std.specs.Prelude.{if◌then◌else◌}
+use Rattle.report_text.specs.KeptTexts.{kept_lines}
+use Rattle.report_text.specs.declared.refusal.QueryRefusal.{QueryRefusal}
+use Rattle.report_text.specs.declared.refusal.QueryRefusal.TheVariants as of_query
+use Rattle.report_text.proofs.NamedLemmas.{own_body}
+use Rattle.wasm_types.specs.declared.module.Body.{Body}
+use Rattle.wasm_types.specs.declared.module.Module.{Module}
+use Rattle.wasm_types.specs.Code.{code_of, count}
+use Rattle.wasm_types.specs.Spaces.{body_of, HasBody}
+use Rattle.wasm_types.proofs.CodeLemmas.{length-flatten}
+use Rattle.flow_domain.specs.KeptSets.{holds}
+use Rattle.slice_whole.specs.Calling.{calls_in}
+use Rattle.slice_whole.specs.Slices.{calls_of}
+use Rattle.wassail_top.specs.Answers.{IsKeptAs}
+use Rattle.wassail_top.specs.Queries.{or_else, why_not_built, why_not_kept, why_not_seen}
+use Rattle.wassail_top.specs.Refusals.{Answer, why_no_code}
+use Rattle.wassail_top.specs.Reply.{reply_answer}
+use Rattle.wassail_top.proofs.NoCode.{has_code, has_type}
+use Rattle.wassail_top.proofs.Unless.{taken}
+use Rattle.wassail_top.proofs.due.answer_kept.Goals as goal
+
+-- an answer with these bytes on out and on err
+abbrev both : List ℕ → List ℕ → Answer
+both out err = record { status = 0; out = out; err = err }
+
+pub returns : goal.returns
+returns c =
+    let m = c.args.valid.now in
+    let f = c.args.func in
+    let b = c.in-Some-body.body.now in
+    let own : body_of m f ≡ Some b = ap (λ (n : Module). body_of n f) (sym c.module.ensures.same) ∙ sym c.in-Some-body.ensures in
+    let code : why_no_code m f ≡ None = sym c.in_default.ensures in
+    let seen : why_not_seen m f c.args.at ≡ None = sym c.in_ok-cause.ensures ∙ c.in_default-2.is in
+    let silent : calls_in (code_of b.code) ≡ false = ap (λ k. calls_in (code_of k)) (sym c.as_slice.ensures) ∙ sym c.if-calls.ensures in
+    let built : why_not_built m f ≡ None =
+    ap (λ (o : Option Body). if calls_of o then Some of_query.Unbuilt else None) own ∙ ap (λ (q : Bool). if q then Some of_query.Unbuilt else None) silent in
+    let none : why_not_kept m f c.args.at ≡ None =
+    ap (λ (w : Option QueryRefusal). or_else w (or_else (why_not_seen m f c.args.at) (why_not_built m f))) code
+    ∙ ap (λ (w : Option QueryRefusal). or_else w (why_not_built m f)) seen ∙ built in
+    let kind = has_type m f c.requires.admitted.valid code in
+    let has : HasBody m f b = ((has_code m f code).0, own_body m f b own) in
+    let many : c.count.result ≡ count (code_of b.code) = c.count.ensures ∙ length-flatten (code_of b.code) in
+    taken (why_not_kept m f c.args.at) (IsKeptAs m f c.args.at) _ none (record {
+      kind = kind.0;
+      kind_is = kind.1;
+      body = b;
+      has_body = own;
+      nodes = holds c.in_ok-kept.kept;
+      exact = c.in_ok-kept.ensures kind.0 b kind.1 has;
+      is = ap₂ {A = List ℕ} {B = List ℕ} both (c.in_ok-kept_text.ensures ∙ ap (kept_lines (holds c.in_ok-kept.kept)) many) c.new.ensures.items;
+    })
