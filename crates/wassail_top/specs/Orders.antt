@@ -5,6 +5,8 @@ use Rattle.wasm_types.specs.declared.run.Reply.{Reply}
 use Rattle.wasm_types.specs.declared.limits.TheConstants.{MOST_NAME_BYTES}
 use Rattle.wassail_top.specs.declared.words.Command.{Command}
 use Rattle.wassail_top.specs.declared.words.Command.TheVariants as command
+use Rattle.wassail_top.specs.declared.words.Question.{Question}
+use Rattle.wassail_top.specs.declared.words.Question.TheVariants as question
 
 pub data Order : Type 0 where
   check : Order
@@ -15,14 +17,17 @@ pub data Order : Type 0 where
   run : (func budget : ℕ) (args : List ℤ) (replies : List Reply) → Order
   trace : (func at budget : ℕ) (args : List ℤ) (replies : List Reply) → Order
 
+abbrev pub asked : Question → Order
+asked question.Check = check
+asked question.Rewrite = rewrite
+asked (question.List func) = list func
+asked (question.Kept func at) = kept func at
+asked (question.Run func budget args replies) = run func budget args.items replies
+asked (question.Trace func at budget args replies) = trace func at budget args.items replies
+
 abbrev pub order_read : Command → Order
-order_read command.Check = check
-order_read command.Rewrite = rewrite
-order_read (command.List func) = list func
-order_read (command.Kept func at) = kept func at
+order_read (command.Ask q) = asked q
 order_read (command.Slice func at name) = slice func at (string_bytes name)
-order_read (command.Run func budget args replies) = run func budget args.items replies
-order_read (command.Trace func at budget args replies) = trace func at budget args.items replies
 
 -- the greatest number of bytes of a name
 abbrev pub most_name_bytes : ℕ

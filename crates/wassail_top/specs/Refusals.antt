@@ -36,6 +36,10 @@ unless_refused (Some why) answer = refused (refusal.Query why)
 abbrev pub why_no_code : Module → ℕ → Option QueryRefusal
 why_no_code m f = if nat_lt f (import_count m) then Some (of_query.Imported f) else if nat_lt f (length (func_types m)) then None else Some (of_query.NoFunction f)
 
+-- there is a cause, and the answer is the refusal for it, as one of a class
+abbrev pub IsRefusedFor : {Why : Type 0} → (Why → Refusal) → Option Why → Answer → Type 0
+IsRefusedFor {Why} class cause answer = (why : Why) × (cause ≡ Some why) × (answer ≡ refused (class why))
+
 -- A cause holds that has a refusal, and the answer is that refusal, as one of a class. A cause without a refusal is that an allocation was refused.
 abbrev pub IsRefused : {Cause Why : Type 0} → (Why → Refusal) → (Cause → Type 0) → (Cause → Option Why) → Answer → Type 0
 IsRefused {Cause} {Why} class Holds why_of answer = (cause : Cause) × (why : Why) × Holds cause × (why_of cause ≡ Some why) × (answer ≡ refused (class why))

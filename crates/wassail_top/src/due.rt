@@ -2,24 +2,28 @@
 
 ghost use Rattle.std.specs.Prelude.{◌≡◌, ◌≤◌, ◌<◌, ◌^◌, ℕ, None, length, map, IfOk};
 ghost use Rattle.std.specs.String.{string_bytes};
+ghost use Rattle.stack_names.specs.Named.{AreNames};
 ghost use Rattle.wasm_types.specs.Canon.{canon};
+ghost use Rattle.wasm_types.specs.Funcs.{unwatched};
 ghost use Rattle.wasm_types.specs.Subset.{NestsAtMost, most_nesting};
 ghost use Rattle.wasm_types.specs.WellFormed.{IsWellFormed};
 ghost use Rattle.wasm_validate.specs.Admission.{IsAdmitted};
+ghost use Rattle.report_text.specs.declared.refusal.Refusal.TheVariants as refusal;
 ghost use Rattle.report_text.specs.Listing.{listing};
+ghost use Rattle.report_text.specs.Texts.{valid_line};
 ghost use Rattle.module_run.specs.Runs.{ends_as};
 ghost use Rattle.ref_interp.specs.Invokes.{Watches};
 ghost use Rattle.wassail_top.specs.Answers.{bytes_alone, IsDue, IsDueTo, AnswersAdmitted, AnswersBytes, AnswersModule, IsKeptAs, IsSlicedAs, most_bytes, slice_answer};
-ghost use Rattle.wassail_top.specs.Orders.{HasShortName, most_name_bytes, order_read};
+ghost use Rattle.wassail_top.specs.Orders.{asked, HasShortName, most_name_bytes, order_read};
 ghost use Rattle.wassail_top.specs.Queries.{positions_of, why_no_run, why_no_slice, why_not_kept, why_not_run, why_not_traced};
-ghost use Rattle.wassail_top.specs.Refusals.{refused, unless_refused, why_no_code};
+ghost use Rattle.wassail_top.specs.Refusals.{IsRefusedFor, refused, unless_refused, why_no_code};
 ghost use Rattle.wassail_top.specs.Reply.{reply_answer};
 ghost use Rattle.wassail_top.specs.RunAnswers.{AnswersUnless, IsRunAs, run_answer};
 ghost use Rattle.wassail_top.specs.Words.{order_of};
 
 use crate::refusals::{admit_refusal, code_refusal, decode_refusal, sight_refusal, slice_refusal};
 use crate::status::Status;
-use crate::words::{Command, WordsEnd, parse_words};
+use crate::words::{Command, Question, WordsEnd, parse_words};
 use module_run::{RunEnd, RunRefusal, run, values_of};
 use outside_io::{ReadEnd, Source, read_all};
 use report_text::{
@@ -29,7 +33,7 @@ use report_text::{
 use slice_closure::close;
 use slice_whole::{Sliced, calls, slice};
 use sqlite_items::Items;
-use stack_names::names;
+use stack_names::{Names, names};
 use std::alloc::Global;
 use wasm_decode::decode;
 use wasm_encode::encode;
@@ -85,10 +89,7 @@ fn answer_bytes(alloc: Global, command: Command, bytes: &[u8]) -> Result<Reply, 
 {
     match decode(alloc, bytes) {
         Ok(form) => answer_module(alloc, command, form),
-        Err(end) => {
-            let cause = decode_refusal(end).ok_or(NoMemory)?;
-            refuse(alloc, Refusal::Module(cause))
-        }
+        Err(end) => refuse_module(alloc, decode_refusal(end)),
     }
 }
 
@@ -102,10 +103,7 @@ fn answer_module(alloc: Global, command: Command, form: Module) -> Result<Reply,
 {
     match admit(alloc, form) {
         Ok(valid) => answer_admitted(alloc, command, valid),
-        Err((_, end)) => {
-            let cause = admit_refusal(end).ok_or(NoMemory)?;
-            refuse(alloc, Refusal::Module(cause))
-        }
+        Err((_, end)) => refuse_module(alloc, admit_refusal(end)),
     }
 }
 
@@ -117,33 +115,64 @@ fn answer_admitted(alloc: Global, command: Command, valid: ValidModule) -> Resul
     ensures { IfOk result (λ reply. AnswersAdmitted (order_read command) valid (reply_answer reply)) }
 {
     match command {
-        Command::Check => Ok(Reply {
-            status: Status::Answered,
-            out: valid_text(alloc)?,
-            err: Vec::new(alloc),
-        }),
-        Command::Rewrite => Ok(Reply {
-            status: Status::Answered,
-            out: encode(alloc, valid.module())?,
-            err: Vec::new(alloc),
-        }),
-        Command::List { func } => answer_list(alloc, &valid, func),
-        Command::Kept { func, at } => answer_kept(alloc, &valid, func, at),
+        Command::Ask(question) => answer_question(alloc, question, &valid),
         Command::Slice { func, at, name } => answer_slice(alloc, valid, func, at, name.as_str()),
-        Command::Run {
+    }
+}
+
+// What is answered to a question about an admitted module.
+fn answer_question(
+    alloc: Global,
+    question: Question,
+    valid: &ValidModule,
+) -> Result<Reply, NoMemory>
+    requires admitted { IsAdmitted valid.now }
+    requires short { length (canon valid.now) ≤ most_bytes }
+    ensures { IfOk result (λ reply. AnswersAdmitted (asked question) valid.now (reply_answer reply)) }
+{
+    match question {
+        Question::Check => answer_check(alloc),
+        Question::Rewrite => answer_rewrite(alloc, valid),
+        Question::List { func } => answer_list(alloc, valid, func),
+        Question::Kept { func, at } => answer_kept(alloc, valid, func, at),
+        Question::Run {
             func,
             budget,
             args,
             replies,
-        } => answer_run(alloc, &valid, func, budget, &args, replies),
-        Command::Trace {
+        } => answer_run(alloc, valid, func, budget, &args, replies),
+        Question::Trace {
             func,
             at,
             budget,
             args,
             replies,
-        } => answer_trace(alloc, &valid, func, at, budget, &args, replies),
+        } => answer_trace(alloc, valid, func, at, budget, &args, replies),
     }
+}
+
+// What `check` answers about an admitted module.
+fn answer_check(alloc: Global) -> Result<Reply, NoMemory>
+    ensures { IfOk result (λ reply. reply_answer reply ≡ bytes_alone valid_line) }
+{
+    Ok(Reply {
+        status: Status::Answered,
+        out: valid_text(alloc)?,
+        err: Vec::new(alloc),
+    })
+}
+
+// What `rewrite` answers about an admitted module.
+fn answer_rewrite(alloc: Global, valid: &ValidModule) -> Result<Reply, NoMemory>
+    requires admitted { IsAdmitted valid.now }
+    requires short { length (canon valid.now) ≤ most_bytes }
+    ensures { IfOk result (λ reply. reply_answer reply ≡ bytes_alone (canon valid.now)) }
+{
+    Ok(Reply {
+        status: Status::Answered,
+        out: encode(alloc, valid.module())?,
+        err: Vec::new(alloc),
+    })
 }
 
 // What `list` answers about an admitted module.
@@ -155,9 +184,22 @@ fn answer_list(alloc: Global, valid: &ValidModule, func: u32) -> Result<Reply, N
         return refuse(alloc, Refusal::Query(cause));
     }
     let names = names(alloc, valid, func)?;
+    write_list(alloc, valid, func, &names)
+}
+
+// The listing of a function on out.
+fn write_list(
+    alloc: Global,
+    valid: &ValidModule,
+    func: u32,
+    names: &Names,
+) -> Result<Reply, NoMemory>
+    requires { AreNames valid.now func unwatched names.now }
+    ensures { IfOk result (λ reply. reply_answer reply ≡ bytes_alone (listing valid.now func)) }
+{
     Ok(Reply {
         status: Status::Answered,
-        out: list_text(alloc, valid, func, &names)?,
+        out: list_text(alloc, valid, func, names)?,
         err: Vec::new(alloc),
     })
 }
@@ -299,10 +341,7 @@ fn answer_slice(
 {
     match slice(alloc, valid, func, Pos(at), name) {
         Ok(sliced) => write_slice(alloc, &sliced),
-        Err(end) => {
-            let cause = slice_refusal(end, func, at).ok_or(NoMemory)?;
-            refuse(alloc, Refusal::Query(cause))
-        }
+        Err(end) => refuse_query(alloc, slice_refusal(end, func, at)),
     }
 }
 
@@ -317,6 +356,26 @@ fn write_slice(alloc: Global, sliced: &Sliced) -> Result<Reply, NoMemory>
         out: encode(alloc, sliced.module.module())?,
         err: slice_text(alloc, sliced.func, sliced.at.0)?,
     })
+}
+
+// The refusal of a module for a cause. Where there is none, an allocation was refused.
+fn refuse_module(alloc: Global, cause: Option<ModuleRefusal>) -> Result<Reply, NoMemory>
+    ensures { IfOk result (λ reply. IsRefusedFor refusal.Module cause (reply_answer reply)) }
+{
+    match cause {
+        Some(cause) => refuse(alloc, Refusal::Module(cause)),
+        None => Err(NoMemory),
+    }
+}
+
+// The refusal of a query for a cause. Where there is none, an allocation was refused.
+fn refuse_query(alloc: Global, cause: Option<QueryRefusal>) -> Result<Reply, NoMemory>
+    ensures { IfOk result (λ reply. IsRefusedFor refusal.Query cause (reply_answer reply)) }
+{
+    match cause {
+        Some(cause) => refuse(alloc, Refusal::Query(cause)),
+        None => Err(NoMemory),
+    }
 }
 
 // Nothing for out, and a line for err.

@@ -17,6 +17,15 @@ use wasm_types::{MOST_NAME_BYTES, Reply};
 /// What the program is asked to do.
 #[derive(Drop)]
 pub enum Command {
+    /// Answer a question about the module.
+    Ask(Question),
+    /// Write the module with a slice of function `func` at position `at` appended, exported as `name`.
+    Slice { func: u32, at: u32, name: String },
+}
+
+/// What is asked about a module, which stays as it is.
+#[derive(Drop)]
+pub enum Question {
     /// Tell whether the module is valid, has no float and keeps the limits.
     Check,
     /// Write the module in its canonical spelling.
@@ -29,12 +38,6 @@ pub enum Command {
     Kept {
         func: u32,
         at: u32,
-    },
-    /// Write the module with a slice of function `func` at position `at` appended, exported as `name`.
-    Slice {
-        func: u32,
-        at: u32,
-        name: String,
     },
     /// Run function `func` on these arguments within a budget of turns, where the host gives these replies.
     Run {
@@ -80,8 +83,8 @@ pub fn parse_words(alloc: Global, words: &[String]) -> Result<Command, WordsEnd>
         return Err(WordsEnd::Refused);
     };
     match name.as_str() {
-        "check" => parse_alone(Command::Check, rest),
-        "rewrite" => parse_alone(Command::Rewrite, rest),
+        "check" => parse_alone(Command::Ask(Question::Check), rest),
+        "rewrite" => parse_alone(Command::Ask(Question::Rewrite), rest),
         "list" => parse_list(rest),
         "kept" => parse_kept(rest),
         "slice" => parse_slice(rest),
@@ -113,7 +116,7 @@ fn parse_list(rest: &[String]) -> Result<Command, WordsEnd>
         return Err(WordsEnd::Refused);
     };
     let func = parse_number(func.as_bytes()).ok_or(WordsEnd::Refused)?;
-    Ok(Command::List { func })
+    Ok(Command::Ask(Question::List { func }))
 }
 
 // Two numbers.
@@ -126,7 +129,7 @@ fn parse_kept(rest: &[String]) -> Result<Command, WordsEnd>
     };
     let func = parse_number(func.as_bytes()).ok_or(WordsEnd::Refused)?;
     let at = parse_number(at.as_bytes()).ok_or(WordsEnd::Refused)?;
-    Ok(Command::Kept { func, at })
+    Ok(Command::Ask(Question::Kept { func, at }))
 }
 
 // Two numbers and a name.
@@ -160,12 +163,12 @@ fn parse_run(alloc: Global, rest: &[String]) -> Result<Command, WordsEnd>
     let func = parse_number(func.as_bytes()).ok_or(WordsEnd::Refused)?;
     let budget = parse_number(budget.as_bytes()).ok_or(WordsEnd::Refused)?;
     let Given { args, replies } = parse_given(alloc, words)?;
-    Ok(Command::Run {
+    Ok(Command::Ask(Question::Run {
         func,
         budget,
         args,
         replies,
-    })
+    }))
 }
 
 // A function, a position in it and a budget, with arguments and replies.
@@ -180,13 +183,13 @@ fn parse_trace(alloc: Global, rest: &[String]) -> Result<Command, WordsEnd>
     let at = parse_number(at.as_bytes()).ok_or(WordsEnd::Refused)?;
     let budget = parse_number(budget.as_bytes()).ok_or(WordsEnd::Refused)?;
     let Given { args, replies } = parse_given(alloc, words)?;
-    Ok(Command::Trace {
+    Ok(Command::Ask(Question::Trace {
         func,
         at,
         budget,
         args,
         replies,
-    })
+    }))
 }
 
 // Arguments, and replies after the first `/`.
