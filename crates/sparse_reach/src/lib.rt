@@ -1,9 +1,13 @@
-//! Labelled reachability over very many nodes, of which few are met: the table takes memory only where it is written.
+//! Reachability over very many nodes, of which few are met: tables and marks take memory only where they are written.
 #![tactic(auto)]
 
 mod labels;
+mod marks;
+mod search;
 mod table;
 mod words;
 
 pub use labels::reach_sparse;
+pub use marks::Marks;
+pub use search::reach_few;
 pub use table::SparseRows;
