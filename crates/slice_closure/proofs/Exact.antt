@@ -14,21 +14,22 @@ use Rattle.wasm_types.specs.Labels.{join_of}
 use Rattle.wasm_types.specs.Sites.{Site, Sites, IsSite, EndAt, Leads}
 use Rattle.wasm_types.specs.Reaching.{Table, WritesAt, Writes, writes_it, Path, edge, along, Enters, stands, steps}
 use Rattle.wasm_types.specs.Shadow.{InShadow, arms, if_join, later, around, looping}
-use Rattle.block_cfg.specs.Graph.{row_of}
 use Rattle.block_cfg.specs.Points.{IsPoint}
 use Rattle.stack_names.specs.Named.{operands_in, of_node, place_of, listed_all}
 use Rattle.control_deps.specs.Nest.{IsAround, IsNestOf}
 use Rattle.control_deps.specs.Nearest.{Finds, nearest_in}
 use Rattle.worklist.specs.Reached.{Reached, root, step}
 use Rattle.flow_domain.specs.declared.loc_table.LocUse.{LocUse}
-use Rattle.flow_domain.specs.LocTables.{HasRow, row_in, WritesIn, IsPlainTable}
+use Rattle.flow_domain.specs.LocTables.{Rows, HasRow, HasUse, IsPlainTable}
 use Rattle.flow_domain.specs.Kept.{Kept, criterion, criterion_operand, operand, reaching, deciding, carrying, ending, holding_at, holding_join, own_join}
 use Rattle.flow_domain.specs.Sliced.{no_calls, UsesAt}
 use Rattle.slice_closure.specs.declared.tables.Tables.{Tables}
 use Rattle.slice_closure.specs.declared.items.Item.{Item}
 use Rattle.slice_closure.specs.declared.items.Item.TheVariants.{Keeps, Needs}
 use Rattle.slice_closure.specs.Takens.{taken_at, of_taken}
-use Rattle.slice_closure.specs.Next.{taken_places, NextAt, Passes, First, Next}
+use Rattle.slice_closure.specs.Flow.{uses_in, touch_at, taken_is}
+use Rattle.slice_closure.specs.Next.{spot_in, taken_places, Asks, Touched, NextAt, IsBefore, Passes, First, Next}
+use Rattle.slice_closure.proofs.Spots.{asks_used, used_asks, written_use, use_written}
 use Rattle.slice_closure.proofs.Joined.{Comes}
 use Rattle.slice_closure.proofs.Makers.{site_among, among_site}
 use Rattle.slice_closure.proofs.Onwards.{finds_met}
@@ -45,12 +46,13 @@ used cs S = UsesAt cs no_calls S
 pub record AreRight (cs : Callees) (S : Sites) (ends : List EndAt) (T : Node → ValType) (t : Tables) (at : Pos) : Type 0 where
   pub live : Site
   pub is_live : IsSite S at.0 live
-  pub points : (n : Node) → Contains t.cfg.now.points n ↔ IsPoint S n
-  pub before : (a b : Node) → Contains (row_of t.cfg.now.before b) a ↔ Leads S a b
-  pub leads : (a b : Node) → Leads S a b → IsPoint S a × IsPoint S b
-  pub plain : IsPlainTable cs S t.locs.now
+  pub comes : (a b : Node) → IsBefore t b a ↔ Leads S a b
+  pub leads : (a b : Node) → Leads S a b → IsPoint S a
+  pub rows : Rows
+  pub plain : IsPlainTable cs S rows
+  pub uses : (p : ℕ) (us : List LocUse) → HasRow rows p us → uses_in (touch_at (spot_in t p)) ≡ us
   pub watched : (p : ℕ) (s : Site) → IsSite S p s → s.mark ≡ nat_eq at.0 p
-  pub taken : (p : ℕ) (s : Site) → IsSite S p s → slice_get t.taken.now p ≡ Some (taken_at s.head)
+  pub taken : (p : ℕ) (s : Site) → IsSite S p s → taken_is (spot_in t p) ≡ Some (taken_at s.head)
   pub positions : t.names.now.positions ≡ listed_all cs T S
   pub joined : (j x : Node) → Contains (of_node t.names.now.joined j) x ↔ Comes S ends j x
   pub name_points : (p : ℕ) (s : Site) → IsSite S p s → (k : ℕ) (x : Node) → slice_get s.names k ≡ Some x → IsPoint S x
@@ -98,11 +100,22 @@ module _ (cs : Callees) (S : Sites) (ends : List EndAt) (T : Node → ValType) (
   Means (Keeps n) = IsKept n × IsPoint S n
   Means (Needs x a) = (u : ℕ) × (IsKept (At u) × (used cs S u x × Enters (written cs S) S x a (At u)))
 
-  writes_in : (x : Loc) (n : Node) → Writes (WritesIn t.locs.now) x n → Writes (written cs S) x n
-  writes_in x _ (writes_it {p} w) = writes_it ((r.plain.writes p x).0 w)
+  writes_in : (x : Loc) (n : Node) → IsPoint S n → Writes (Touched t) x n → Writes (written cs S) x n
+  writes_in x _ point (writes_it {p} w) =
+      let row = (r.plain.live p).1 point in
+      writes_it ((r.plain.writes p x).0 (
+        row.0,
+        (
+          row.1,
+          subst (λ us. HasUse (λ u. u.writes) us x) (r.uses p row.0 row.1)
+              (written_use (touch_at (spot_in t p)) x w),
+        ),
+      ))
 
-  in_writes : (x : Loc) (n : Node) → Writes (written cs S) x n → Writes (WritesIn t.locs.now) x n
-  in_writes x _ (writes_it {p} w) = writes_it ((r.plain.writes p x).1 w)
+  in_writes : (x : Loc) (n : Node) → Writes (written cs S) x n → Writes (Touched t) x n
+  in_writes x _ (writes_it {p} w) =
+      let h = (r.plain.writes p x).1 w in
+      writes_it (use_written (touch_at (spot_in t p)) x (subst (λ us. HasUse (λ u. u.writes) us x) (sym (r.uses p h.0 h.1.0)) h.1.1))
 
   places_at : (p : ℕ) (s : Site) → IsSite S p s → taken_places t p ≡ of_taken (Some (taken_at s.head)) (operands_in (listed_all cs T S) p)
   places_at p s is = ap (λ o. of_taken o (operands_in t.names.now.positions p)) (r.taken p s is)
@@ -124,11 +137,11 @@ module _ (cs : Callees) (S : Sites) (ends : List EndAt) (T : Node → ValType) (
       subst Means (sym e) (criterion_operand at.0 o.0 r.live r.is_live mark_there o.1.0 o.1.1, r.name_points at.0 r.live r.is_live o.0 place.maker o.1.1))
       h
 
-  row_there : (p : ℕ) (s : Site) → IsSite S p s → (u : LocUse) → Contains (row_in (slice_get t.locs.now p)) u
-      → (us : List LocUse) × (HasRow t.locs.now p us × Contains us u)
-  row_there p s is u has = let row = (r.plain.live p).1 (s, is) in (row.0, (row.1, subst (λ o. Contains (row_in o) u) row.1 has))
+  row_there : (p : ℕ) (s : Site) → IsSite S p s → (u : LocUse) → Contains (uses_in (touch_at (spot_in t p))) u
+      → (us : List LocUse) × (HasRow r.rows p us × Contains us u)
+  row_there p s is u has = let row = (r.plain.live p).1 (s, is) in (row.0, (row.1, subst (λ us. Contains us u) (r.uses p row.0 row.1) has))
 
-  used_there : (p : ℕ) (s : Site) → IsSite S p s → (u : LocUse) → Contains (row_in (slice_get t.locs.now p)) u → (u.reads || u.checks) ≡ true
+  used_there : (p : ℕ) (s : Site) → IsSite S p s → (u : LocUse) → Contains (uses_in (touch_at (spot_in t p))) u → (u.reads || u.checks) ≡ true
       → used cs S p u.loc
   used_there p s is u has e =
       let row = row_there p s is u has in
@@ -145,7 +158,9 @@ module _ (cs : Callees) (S : Sites) (ends : List EndAt) (T : Node → ValType) (
       let o = taken_has T cs S p.0 point.0 point.1 place (subst (λ zs. Contains zs place) (places_at p.0 point.0 point.1) has) in
       subst Means (sym e) (operand p.0 o.0 point.0 kept point.1 o.1.0 o.1.1, r.name_points p.0 point.0 point.1 o.0 place.maker o.1.1))
       (λ h. ⊎_elim
-      (λ (u, (has, (uses, e))). subst Means (sym e) (p.0, (kept, (used_there p.0 point.0 point.1 u has uses, stands))))
+      (λ asked.
+      let u = asks_used (touch_at (spot_in t p.0)) p.0 j asked in
+      subst Means (sym u.1.1.1) (p.0, (kept, (used_there p.0 point.0 point.1 u.0 u.1.0 u.1.1.0, stands))))
       (λ (b, (is_around, e)).
       let o = r.held p.0 b point.0 point.1 (is_around r.nest) in
       subst Means (sym e) (holding_at p.0 o.0 kept o.1.0 o.1.1.0 o.1.1.1, (o.0, o.1.0)))
@@ -164,7 +179,7 @@ module _ (cs : Callees) (S : Sites) (ends : List EndAt) (T : Node → ValType) (
 
   passed_means : (x : Loc) (a b : Node) → Means (Needs x a) → Leads S b a → (j : Item) → Passes t x b j → Means j
   passed_means x a b (u, (kept, (uses, enters))) l j h = ⊎_elim
-      (λ (w, e). subst Means (sym e) (writer b (writes_in x b w) l, (r.leads b a l).0))
+      (λ (w, e). subst Means (sym e) (writer b (writes_in x b (r.leads b a l) w) l, (r.leads b a l)))
       (λ (free, e). subst Means (sym e) (u, (kept, (uses, steps a l (λ w. free (in_writes x b w)) enters))))
       h
     where
@@ -182,7 +197,7 @@ module _ (cs : Callees) (S : Sites) (ends : List EndAt) (T : Node → ValType) (
       d)
       h)
       h
-  next_means (Needs x a) m j (point, (b, (has, on))) = passed_means x a b m ((r.before b a).0 has) j on
+  next_means (Needs x a) m j (b, (comes, on)) = passed_means x a b m ((r.comes b a).0 comes) j on
 
   pub met_means : (i : Item) → Reached (First t at) (Next t) i → Means i
   met_means i (root h) = first_means i h
@@ -201,10 +216,10 @@ module _ (cs : Callees) (S : Sites) (ends : List EndAt) (T : Node → ValType) (
       from_row h.0 h.1.0 h.1.1.found h.1.1.there h.1.1.same (second_true h.1.1.found.reads h.1.1.found.checks h.1.1.so))
       d.uses
     where
-      from_row : (us : List LocUse) → HasRow t.locs.now u us → (v : LocUse) → Contains us v → v.loc ≡ x → (v.reads || v.checks) ≡ true → IsMet (Needs x (At u))
+      from_row : (us : List LocUse) → HasRow r.rows u us → (v : LocUse) → Contains us v → v.loc ≡ x → (v.reads || v.checks) ≡ true → IsMet (Needs x (At u))
       from_row us row v there same so =
-          let has : Contains (row_in (slice_get t.locs.now u)) v = subst (λ o. Contains (row_in o) v) (sym row) there in
-          step (Keeps (At u)) met (inl (inr (inl (v, (has, (so, ap (λ z. Needs z (At u)) (sym same)))))))
+          let has : Contains (uses_in (touch_at (spot_in t u))) v = subst (λ zs. Contains zs v) (sym (r.uses u us row)) there in
+          step (Keeps (At u)) met (inl (inr (inl (subst (λ z. Asks (touch_at (spot_in t u)) u (Needs z (At u))) same (used_asks (touch_at (spot_in t u)) u v has so)))))
 
   path_met : (x : Loc) (a q : Node) → Path (written cs S) S x a q → IsMet (Needs x q) → (b : Node) × (Leads S a b × IsMet (Needs x b))
   path_met x a q (edge l) met = (q, (l, met))
@@ -214,7 +229,7 @@ module _ (cs : Callees) (S : Sites) (ends : List EndAt) (T : Node → ValType) (
         (
           l,
           step (Needs x on.0) on.1.1
-              ((r.points on.0).1 (r.leads b on.0 on.1.0).1, (b, ((r.before b on.0).1 on.1.0, inr (λ w. free (writes_in x b w), refl)))),
+              (b, ((r.comes b on.0).1 on.1.0, inr (λ w. free (writes_in x b (r.leads b on.0 on.1.0) w), refl))),
         ),
       )
 
@@ -233,8 +248,7 @@ module _ (cs : Callees) (S : Sites) (ends : List EndAt) (T : Node → ValType) (
       step (Keeps (At p)) (kept_met (At p) kept) (inl (inl (place_of T n, (has, refl))))
   kept_met _ (reaching {d} u x kept uses w path) =
       let on = path_met x (At d) (At u) path (use_met u x (kept_met (At u) kept) uses) in
-      step (Needs x on.0) on.1.1
-      ((r.points on.0).1 (r.leads (At d) on.0 on.1.0).1, (At d, ((r.before (At d) on.0).1 on.1.0, inl (in_writes x (At d) w, refl))))
+      step (Needs x on.0) on.1.1 (At d, ((r.comes (At d) on.0).1 on.1.0, inl (in_writes x (At d) w, refl)))
   kept_met _ (deciding {p} n kept shadow) = finds_met t at n (At p) (r.all p n shadow) (kept_met n kept)
   kept_met n (carrying p l k s kept is branch lt e) =
       let comes : Comes S ends (join_of s.around l) n =

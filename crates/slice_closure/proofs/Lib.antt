@@ -1,3 +1,7 @@
+pub mod Walking
+pub mod Coming
+pub mod Spots
+pub mod Rows
 pub mod Joined
 pub mod Numbers
 pub mod Pushes
@@ -10,4 +14,3 @@ pub mod Exact
 pub mod Right
 pub mod Dead
 pub mod Searching
-pub mod Collecting

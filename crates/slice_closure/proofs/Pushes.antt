@@ -1,8 +1,8 @@
 -- What a list gains, by items.
 use Rattle.std.proofs.Common.{◌≡◌, ℕ, ◌+◌, ◌<◌, ◌≤◌, List, [], ◌∷◌, ◌++◌, length, get_or, take, Bool, true, false, ◌↔◌, Some, None, refl, sym, ap, ◌∙◌, subst, inl, inr, ◌⊎◌, ⊎_elim, arith}
-use Rattle.std.specs.List.{Contains}
+use Rattle.std.specs.List.{All, Contains}
 use Rattle.std.proofs.lemmas.List.{take_all, take_more}
-use Rattle.std.proofs.lemmas.List.Elements.{Contains-push, Contains-push_cases, Contains-append_left}
+use Rattle.std.proofs.lemmas.List.Elements.{All-contains_itself, Contains-push, Contains-push_cases, Contains-append_left}
 use Rattle.std.proofs.lemmas.Bool.{cases_eq}
 use Rattle.std.proofs.lemmas.Grind.{not_there}
 use Rattle.wasm_types.specs.declared.module.Pos.{Pos}
@@ -11,19 +11,23 @@ use Rattle.wasm_types.specs.declared.place.Loc.{Loc}
 use Rattle.wasm_types.specs.declared.place.Node.{Node}
 use Rattle.wasm_types.specs.declared.place.Node.TheVariants as node
 use Rattle.wasm_types.specs.Nodes.{At}
-use Rattle.wasm_types.specs.Takers.{is_among}
 use Rattle.wasm_types.specs.Reaching.{Table, Writes, writes_it}
 use Rattle.block_cfg.specs.Graph.{number}
-use Rattle.block_cfg.proofs.MemberLemmas.{among_of, contains_of}
-use Rattle.slice_closure.proofs.Joined.{among_is, is_among_of}
 use Rattle.wasm_types.specs.Code.{code_of}
 use Rattle.control_deps.specs.Nest.{IsAround, IsNestOf}
 use Rattle.slice_closure.specs.declared.tables.Tables.{Tables}
 use Rattle.worklist.specs.Gains.{Gains}
 use Rattle.worklist.proofs.Pushing.{gains_none, gains_push, gains_same, gains_then}
 use Rattle.slice_closure.specs.declared.items.Item.{Item}
-use Rattle.slice_closure.specs.Items.{item_number, Numbered}
-use Rattle.slice_closure.specs.Next.{FromEach, IsHolder, AreMarked}
+use Rattle.wasm_types.specs.declared.place.Loc.TheVariants.{Mem, Size}
+use Rattle.flow_domain.specs.declared.loc_table.LocUse.{LocUse}
+use Rattle.flow_domain.specs.LocRows.{reading, changing}
+use Rattle.slice_closure.specs.declared.spot.Touch.{Touch}
+use Rattle.slice_closure.specs.declared.spot.Touch.TheVariants as touch
+use Rattle.slice_closure.specs.declared.spot.Came.TheVariants.{After}
+use Rattle.slice_closure.specs.Flow.{uses_in, ways_to}
+use Rattle.slice_closure.specs.Items.{loc_number, item_number, Numbered}
+use Rattle.slice_closure.specs.Next.{FromEach, Asks, Arrives, Passes, Fits, IsHolder}
 
 none_there : {A : Type 0} (x : A) → Contains [] x → ⊥
 none_there x (k, lt, is) = omega arith
@@ -112,15 +116,42 @@ join_apart n b is p e = cc
 pub exit_apart : (n : Node) → n ≡ node.Exit → (p : ℕ) → n ≡ At p → ⊥
 exit_apart n is p e = cc
 
-pub off_point : (points : List Node) (N : ℕ) (marks : List Bool) → AreMarked points N marks → (n : Node) (k : ℕ) → k ≡ number n → number n < N
-    → get_or marks k false ≡ false → Contains points n → ⊥
-off_point points N marks marked n k e lt off has =
-    let here : get_or marks k false ≡ is_among n points = ap (λ i. get_or marks i false) e ∙ marked.marked n lt in
-    let on : is_among n points ≡ true = is_among_of n points (among_of points n has) in
-    cc
+-- ---- what is read or checked has a number
 
-pub on_point : (points : List Node) (N : ℕ) (marks : List Bool) → AreMarked points N marks → (n : Node) (k : ℕ) → k ≡ number n → number n < N
-    → get_or marks k false ≡ true → Contains points n
-on_point points N marks marked n k e lt on =
-    let here : get_or marks k false ≡ is_among n points = ap (λ i. get_or marks i false) e ∙ marked.marked n lt in
-    contains_of points n (among_is n points (sym here ∙ on))
+abbrev pub TouchFits : ℕ → Touch → Type 0
+TouchFits L t = All (λ (u : LocUse). loc_number u.loc < L) (uses_in t)
+
+pub reads_fit : (L : ℕ) (t : Touch) (x : Loc) → TouchFits L t → t ≡ touch.Reads x → loc_number x < L
+reads_fit L t x fits is = subst (λ z. TouchFits L z) is fits 0 (reading x) (omega arith)
+
+pub changes_fit : (L : ℕ) (t : Touch) (x : Loc) → TouchFits L t → t ≡ touch.Changes x → loc_number x < L
+changes_fit L t x fits is = subst (λ z. TouchFits L z) is fits 0 (changing x) (omega arith)
+
+pub loads_fit : (L : ℕ) (t : Touch) → TouchFits L t → t ≡ touch.Loads → 2 ≤ L
+loads_fit L t fits is = let lt : loc_number Size < L = subst (λ z. TouchFits L z) is fits 1 (reading Mem) (omega arith) in omega arith
+
+pub stores_fit : (L : ℕ) (t : Touch) → TouchFits L t → t ≡ touch.Stores → 2 ≤ L
+stores_fit L t fits is = let lt : loc_number Size < L = subst (λ z. TouchFits L z) is fits 1 (reading Mem) (omega arith) in omega arith
+
+-- what is asked for, where the touch is known
+pub asked_same : (N : ℕ) (t u : Touch) (p : ℕ) (xs ys : List ℕ) → t ≡ u → Gains (Numbered N (Asks u p)) xs ys → Gains (Numbered N (Asks t p)) xs ys
+asked_same N t u p xs ys is g = subst (λ z. Gains (Numbered N (Asks z p)) xs ys) (sym is) g
+
+-- ---- points before a point
+
+pub one_after : (N : ℕ) (t : Tables) (point earlier : Node) (x : Loc) (xs ys : List ℕ) → Arrives t point earlier
+    → Gains (Numbered N (Passes t x earlier)) xs ys → Gains (Numbered N (λ j. (b : Node) × (Arrives t point b × Passes t x b j))) xs ys
+one_after N t point earlier x xs ys came g =
+    numbered_same N (Passes t x earlier) (λ j. (b : Node) × (Arrives t point b × Passes t x b j)) xs ys
+    (λ j p. (earlier, (came, p)))
+    (λ j (b, (also, p)). subst (λ z. Passes t x z j) (same_after b earlier (sym also ∙ came)) p)
+    g
+  where
+    same_after : (a b : Node) → After a ≡ After b → a ≡ b
+    same_after a b e = cc
+
+pub way_below : (N L : ℕ) (t : Tables) → Fits N L t → (point : Node) (row : List Node) → row ≡ ways_to t.flow.now.before.items point
+    → All (λ (b : Node). number b < N) row
+way_below N L t fits point row is k d lt =
+    let x = get_or row k d in
+    fits.before point x (inr (subst (λ zs. Contains zs x) is (All-contains_itself row k d lt)))

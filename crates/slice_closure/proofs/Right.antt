@@ -1,5 +1,5 @@
 -- The tables that are made of a body are right.
-use Rattle.std.proofs.Common.{◌≡◌, ◌↔◌, ℕ, ◌+◌, ◌*◌, ◌<◌, List, [], ◌∷◌, Bool, true, false, Option, Some, None, length, get_or, refl, sym, ap, ◌∙◌, subst, arith, nat_eq}
+use Rattle.std.proofs.Common.{◌≡◌, ◌↔◌, ℕ, ◌+◌, ◌*◌, ◌<◌, List, [], ◌∷◌, Bool, true, false, Option, Some, None, length, get_or, refl, sym, ap, ◌∙◌, subst, arith, nat_eq, inl, inr, ⊎_elim}
 use Rattle.std.specs.Prelude.{slice_get}
 use Rattle.std.specs.List.{All, Contains}
 use Rattle.std.specs.Option.{option_map}
@@ -21,29 +21,36 @@ use Rattle.body_check.proofs.BodyLemmas.{body-among}
 use Rattle.wasm_types.specs.Actions.{Callees, callees}
 use Rattle.wasm_types.specs.Nodes.{At}
 use Rattle.wasm_types.specs.Labels.{body_label}
-use Rattle.wasm_types.specs.Sites.{Site, Sites, IsSite, EndAt, body_sites, body_ends}
+use Rattle.wasm_types.specs.Sites.{Site, Sites, IsSite, EndAt, Leads, from_at, from_join, body_sites, body_ends}
 use Rattle.wasm_types.specs.Takers.{joined_of}
 use Rattle.block_cfg.specs.Graph.{number, row_of}
 use Rattle.block_cfg.specs.Points.{IsPoint}
-use Rattle.block_cfg.proofs.MemberLemmas.{among_of}
-use Rattle.block_cfg.proofs.SiteLemmas.{size_marked}
+use Rattle.block_cfg.specs.Walk.{lists}
+use Rattle.block_cfg.proofs.MemberLemmas.{among_of, contains_of}
+use Rattle.block_cfg.proofs.SiteLemmas.{size_marked, sites_shapes}
+use Rattle.block_cfg.proofs.LeadLemmas.{all_rows, leads_of, of_leads}
 use Rattle.stack_names.specs.declared.place.Place.{Place}
 use Rattle.stack_names.specs.Named.{Named, AreNames, is_listed, is_live_in, operands_in, of_node, listed, listed_all, code_in, sites_in}
 use Rattle.control_deps.specs.Nearest.{nearest_in}
 use Rattle.control_deps.proofs.FindLemmas.{holder_found, around_site}
 use Rattle.flow_domain.specs.declared.loc_table.LocUse.{LocUse}
 use Rattle.flow_domain.specs.Heights.{Shaped}
-use Rattle.flow_domain.specs.LocTables.{row_in}
+use Rattle.flow_domain.specs.LocRows.{rows_of}
+use Rattle.flow_domain.proofs.LocLemmas.{plain_table}
 use Rattle.flow_domain.specs.Kept.{Tells}
 use Rattle.flow_domain.specs.KeptSets.{KeptSet, holds}
 use Rattle.flow_domain.specs.Sliced.{KeptAt, context_of, watched_code}
 use Rattle.stack_repair.specs.Law.{HasTypes, ValidHasHeights}
 use Rattle.worklist.specs.Reached.{Reached}
 use Rattle.slice_closure.specs.declared.tables.Tables.{Tables}
-use Rattle.slice_closure.specs.declared.taken.Taken.{Taken}
+use Rattle.slice_closure.specs.declared.spot.Came.TheVariants.{First, After}
+use Rattle.slice_closure.specs.Takens.{taken_at}
+use Rattle.slice_closure.specs.Flow.{uses_in, touch_at, came_to}
+use Rattle.slice_closure.proofs.Coming.{Told, told_led, led_told}
+use Rattle.slice_closure.proofs.Spots.{uses_at_spot, taken_at_spot}
 use Rattle.slice_closure.specs.declared.items.Item.TheVariants.{Keeps}
 use Rattle.slice_closure.specs.Items.{loc_number}
-use Rattle.slice_closure.specs.Next.{First, Next, Fits}
+use Rattle.slice_closure.specs.Next.{spot_in, IsBefore, First as Begins, Next, Fits}
 use Rattle.slice_closure.specs.Made.{AreMade}
 use Rattle.slice_closure.proofs.Joined.{Comes, joined_comes}
 use Rattle.slice_closure.proofs.Takes.{takes_at}
@@ -62,6 +69,11 @@ live_site cs T S p h = go (slice_get S p) refl
     go None e = let off : false ≡ true = at None e in absurd cc
     go (Some None) e = let off : false ≡ true = at (Some None) e in absurd cc
     go (Some (Some s)) e = (s, e)
+
+-- what leads on is a point
+leads_from : (S : Sites) (a b : Node) → Leads S a b → IsPoint S a
+leads_from S a b (from_at s is g) = (s, is)
+leads_from S a b (from_join s is j) = (s, (is, j))
 
 -- all elements, where each that is contained is so
 pub all_from : {A : Type 0} (P : A → Type 0) (xs : List A) → ((x : A) → Contains xs x → P x) → All P xs
@@ -104,20 +116,41 @@ module _ (m : Module) (f : ℕ) (at : Pos) (t : Tables) (made : AreMade m f at t
   here : (s : Site) × IsSite S at.0 s
   here = live_site cs made.names.types S at.0 (subst (λ ls. is_live_in ls at.0 ≡ true) positions_are made.live)
 
+  abbrev rows : List (List Node)
+  rows = [] ∷ lists true (Exit ∷ []) Exit (code_of body.code) 0
+
+  -- the rows of the sites
+  rows_are : all_rows S ≡ rows
+  rows_are = ap (λ (r : List (List Node)). [] ∷ r) (sites_shapes cs w (code_of body.code) (body_label results (size code) ∷ []) Exit 0 [] refl)
+
+  comes_leads : (a b : Node) → IsBefore t b a ↔ Leads S a b
+  comes_leads a b = (
+    λ comes.
+        let told : Told (code_of body.code) t.flow.now.before.items made.ways b a =
+        ⊎_elim (λ h. inl (subst (λ spots. came_to spots b ≡ After a) made.spots h)) (λ h. inr h) comes in
+        leads_of S a b (subst (λ (rs : List (List Node)). Contains (row_of rs a) b) (sym rows_are)
+        (contains_of (row_of rows a) b (told_led (code_of body.code) t.flow.now.before.items made.ways b a told))),
+    λ leads.
+        let led = among_of (row_of rows a) b (subst (λ (rs : List (List Node)). Contains (row_of rs a) b) rows_are (of_leads S a b leads)) in
+        ⊎_elim (λ h. inl (subst (λ spots. came_to spots b ≡ After a) (sym made.spots) h)) (λ h. inr h)
+        (led_told (code_of body.code) t.flow.now.before.items made.ways b a led),
+  )
+
   right : AreRight cs S ends made.names.types t at
   right =
-      let g = made.cfg cs results w in
+      let c = code_of body.code in
       let near = made.near body made.nest cs results w in
       record {
         live = here.0;
         is_live = here.1;
-        points = g.points;
-        before = g.before;
-        leads = g.stays;
-        plain = made.plain cs results w;
+        comes = comes_leads;
+        leads = leads_from S;
+        rows = rows_of true c;
+        plain = plain_table cs results w body (rows_of true c) refl;
+        uses = λ p us row. uses_at_spot First c 0 p t.flow.now.spots.items us made.spots row;
         watched = λ p s is. (takes_at cs w (code_of body.code) (body_label results (size code) ∷ []) Exit p s is).1;
-        taken = λ p s is. ap (λ (ts : List Taken). slice_get ts p) made.taken
-            ∙ (takes_at cs w (code_of body.code) (body_label results (size code) ∷ []) Exit p s is).0;
+        taken = λ p s is. taken_at_spot First c 0 p t.flow.now.spots.items (taken_at s.head) made.spots
+            (takes_at cs w c (body_label results (size code) ∷ []) Exit p s is).0;
         positions = positions_are;
         joined = λ j x. subst (λ (xs : List Node). Contains xs x ↔ Comes S ends j x) (sym (joined_are j)) (joined_comes cs (HasTypes
             (context_of m made.names.kind body)) results code made.shaped j x);
@@ -141,7 +174,7 @@ module _ (m : Module) (f : ℕ) (at : Pos) (t : Tables) (made : AreMade m f at t
   pub at_below : (N : ℕ) → N ≡ 2 * count (code_of body.code) + 1 → number (At at.0) < N
   at_below N e = below N e (At at.0) here
 
-  pub tables_fit : (N L : ℕ) → N ≡ 2 * count (code_of body.code) + 1 → ((p : ℕ) → All (λ (u : LocUse). loc_number u.loc < L) (row_in (slice_get t.locs.now p)))
+  pub tables_fit : (N L : ℕ) → N ≡ 2 * count (code_of body.code) + 1 → ((p : ℕ) → All (λ (u : LocUse). loc_number u.loc < L) (uses_in (touch_at (spot_in t p))))
       → Fits N L t
   tables_fit N L e uses = record {
     operands = λ p. all_from (λ (place : Place). number place.maker < N) (operands_in t.names.now.positions p) (λ place has.
@@ -150,18 +183,15 @@ module _ (m : Module) (f : ℕ) (at : Pos) (t : Tables) (made : AreMade m f at t
         let o = operands_has made.names.types cs S p s.0 s.1 place listed in
         below N e place.maker (right.name_points p s.0 s.1 o.0 place.maker o.1.1));
     joined = λ n. all_from (λ (k : Node). number k < N) (of_node t.names.now.joined n) (λ x has. below N e x (right.joined_points n x has));
-    before = λ n. all_from (λ (k : Node). number k < N) (row_of t.cfg.now.before n) (λ a has. below N e a (right.leads a n ((right.before a n).0 has)).0);
+    before = λ n a comes. below N e a (right.leads a n ((right.comes a n).0 comes));
     uses = uses;
     earlier = λ n p near. below N e (At p.0) (shadow_site S p.0 n (right.earlier n p near));
     latest = λ n p near. below N e (At p.0) (shadow_site S p.0 n (right.latest n p near));
     nested = merely made.nest;
   }
 
-  pub points_fit : (N : ℕ) → N ≡ 2 * count (code_of body.code) + 1 → All (λ (n : Node). number n < N) t.cfg.now.points
-  points_fit N e = all_from (λ (n : Node). number n < N) t.cfg.now.points (λ n has. below N e n ((right.points n).0 has))
-
   -- what the search met is the kept set of the body
-  pub search_tells : (K : KeptSet) → ((n : Node) → holds K n ≡ true ↔ Reached (First t at) (Next t) (Keeps n)) → (F : FuncType) (b : Body)
+  pub search_tells : (K : KeptSet) → ((n : Node) → holds K n ≡ true ↔ Reached (Begins t at) (Next t) (Keeps n)) → (F : FuncType) (b : Body)
       → type_of_func m f ≡ Some F → HasBody m f b → Tells (holds K) (KeptAt cs F b at.0)
   search_tells K met F b kind has n =
       let same_kind : made.names.kind ≡ F = same_type made.names.kind F (sym made.names.kind_is ∙ kind) in

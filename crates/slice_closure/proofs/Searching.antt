@@ -1,20 +1,16 @@
 -- What the search by numbers meets, in terms of items.
-use Rattle.std.proofs.Common.{◌≡◌, ◌↔◌, ℕ, ◌+◌, ◌*◌, ◌<◌, ◌≤◌, List, [], ◌∷◌, map, sym, ap, subst, inl, inr, ⊎_elim, arith}
+use Rattle.std.proofs.Common.{◌≡◌, ◌↔◌, ℕ, ◌+◌, ◌*◌, ◌<◌, ◌≤◌, List, [], Bool, sym, subst, ⊎_elim, arith}
 use Rattle.std.specs.List.{All, Contains}
 use Rattle.std.proofs.Math.Nat.{mul-le-mul_right}
 use Rattle.std.proofs.lemmas.List.Elements.{All-contains}
 use Rattle.wasm_types.specs.declared.module.Pos.{Pos}
 use Rattle.wasm_types.specs.declared.place.Node.{Node}
 use Rattle.wasm_types.specs.Nodes.{At}
-use Rattle.wasm_types.specs.Sites.{Among}
 use Rattle.block_cfg.specs.Graph.{number}
-use Rattle.block_cfg.proofs.MemberLemmas.{among_of, contains_of}
-use Rattle.worklist.specs.declared.labels.Root.{Root}
-use Rattle.worklist.specs.Bits.{HasBit}
 use Rattle.worklist.specs.Gains.{Gains}
 use Rattle.worklist.specs.Packed.{PackedRoot, PackedEdge, Packs}
 use Rattle.worklist.specs.Reached.{Reached, root, step}
-use Rattle.worklist.specs.Roots.{IsRootOf}
+use Rattle.worklist.specs.Search.{IsMarked}
 use Rattle.worklist.proofs.Reaching.{reached_more, packed_reached}
 use Rattle.stack_names.specs.declared.place.Place.{Place}
 use Rattle.stack_names.specs.Named.{operands_in}
@@ -29,19 +25,6 @@ use Rattle.slice_closure.proofs.Right.{all_from}
 
 nothing_there : (x : ℕ) → Contains [] x → ⊥
 nothing_there x (k, lt, is) = omega arith
-
-abbrev pub root_of : ℕ → Root
-root_of n = record { label = 0; node = n }
-
-roots_have : (list : List ℕ) (x : ℕ) → Among list x → Among (map root_of list) (root_of x)
-roots_have [] x a = a
-roots_have (y ∷ list) x (inl e) = inl (ap root_of e)
-roots_have (y ∷ list) x (inr a) = inr (roots_have list x a)
-
-have_roots : (list : List ℕ) (r : Root) → Among (map root_of list) r → (r.label ≡ 0) × Among list r.node
-have_roots [] r a = absurd a
-have_roots (y ∷ list) r (inl e) = (ap (λ (z : Root). z.label) (sym e), inl (ap (λ (z : Root). z.node) e))
-have_roots (y ∷ list) r (inr a) = let h = have_roots list r a in (h.0, inr h.1)
 
 module _ (N L : ℕ) (t : Tables) (at : Pos) (fits : Fits N L t) (fit : number (At at.0) < N) where
   first_item : (j : Item) → First t at j → IsItem N L j
@@ -59,15 +42,11 @@ module _ (N L : ℕ) (t : Tables) (at : Pos) (fits : Fits N L t) (fit : number (
   packs = record { injective = λ i j v v' e. item_one N L i j v v' e; roots = first_item; edges = λ i j v e. next_item N L t fits i v j e }
 
   -- the numbers at which the search begins
-  pub first_below : (list : List ℕ) → Gains (Numbered N (First t at)) [] list → (roots : List Root) → roots ≡ map root_of list
-      → All (λ (r : Root). (r.label < 1) × (r.node < (L + 1) * N)) roots
-  first_below list gained roots is = all_from (λ (r : Root). (r.label < 1) × (r.node < (L + 1) * N)) roots (λ r has.
-      let h = have_roots list r (subst (λ (rs : List Root). Among rs r) is (among_of roots r has)) in (
-        let z = h.0 in omega arith,
-        ⊎_elim (λ none. absurd (nothing_there r.node none))
-            (λ (j, (first, e)). subst (λ k. k < (L + 1) * N) (sym e) (item_below N L j (first_item j first)))
-            (gained.only r.node (contains_of list r.node h.1)),
-      ))
+  pub first_below : (list roots : List ℕ) → Gains (Numbered N (First t at)) [] list → roots ≡ list → All (λ x. x < (L + 1) * N) roots
+  first_below list roots gained is = all_from (λ (x : ℕ). x < (L + 1) * N) roots (λ x has.
+      ⊎_elim (λ none. absurd (nothing_there x none))
+      (λ (j, (first, e)). subst (λ k. k < (L + 1) * N) (sym e) (item_below N L j (first_item j first)))
+      (gained.only x (subst (λ (zs : List ℕ). Contains zs x) is has)))
 
   abbrev Begins : ℕ → Type 0
   Begins = PackedRoot (item_number N) (First t at)
@@ -75,30 +54,27 @@ module _ (N L : ℕ) (t : Tables) (at : Pos) (fits : Fits N L t) (fit : number (
   abbrev Edge : ℕ → ℕ → Type 0
   Edge = PackedEdge (IsItem N L) (item_number N) (Next t)
 
-  -- the bits of a search from there tell the kept nodes that are met
-  pub search_exact : (list : List ℕ) → Gains (Numbered N (First t at)) [] list → (roots : List Root) → roots ≡ map root_of list → (words : ℕ) (bits : List ℕ)
-      → ((x o : ℕ) → o < 1 → HasBit words bits x o ↔ Reached (IsRootOf roots o) (PackedEdge (IsItem N L) (item_number N) (Next t)) x)
-      → (n : Node) → ((number n < N) × HasBit words bits (number n) 0) ↔ Reached (First t at) (Next t) (Keeps n)
-  search_exact list gained roots is words bits exact n = (
-    λ (lt, bit). (packed_reached (IsItem N L) (item_number N) (First t at) (Next t) packs (Keeps n) lt).0
-        (reached_more (IsRootOf roots 0) Begins Edge Edge in_first (λ x y e. e) (number n) ((exact (number n) 0 (omega arith)).0 bit)),
+  -- the marks of a search from there tell the kept nodes that are met
+  pub search_exact : (list roots : List ℕ) → Gains (Numbered N (First t at)) [] list → roots ≡ list → (marks : List Bool)
+      → ((x : ℕ) → IsMarked marks x ↔ Reached (Contains roots) (PackedEdge (IsItem N L) (item_number N) (Next t)) x)
+      → (n : Node) → ((number n < N) × IsMarked marks (number n)) ↔ Reached (First t at) (Next t) (Keeps n)
+  search_exact list roots gained is marks exact n = (
+    λ (lt, on). (packed_reached (IsItem N L) (item_number N) (First t at) (Next t) packs (Keeps n) lt).0
+        (reached_more (Contains roots) Begins Edge Edge in_first (λ x y e. e) (number n) ((exact (number n)).0 on)),
     λ met.
         let lt : number n < N = met_item (Keeps n) met in (
           lt,
-          (exact (number n) 0 (omega arith)).1 (reached_more Begins (IsRootOf roots 0) Edge Edge first_in (λ x y e. e) (number n)
+          (exact (number n)).1 (reached_more Begins (Contains roots) Edge Edge first_in (λ x y e. e) (number n)
               ((packed_reached (IsItem N L) (item_number N) (First t at) (Next t) packs (Keeps n) lt).1 met)),
         ),
   )
     where
-      in_first : (x : ℕ) → IsRootOf roots 0 x → Begins x
-      in_first x has =
-          let h = have_roots list (root_of x) (subst (λ (rs : List Root). Among rs (root_of x)) is (among_of roots (root_of x) has)) in
-          ⊎_elim (λ none. absurd (nothing_there x none)) (λ (j, (first, e)). (j, (e, first))) (gained.only x (contains_of list x h.1))
+      in_first : (x : ℕ) → Contains roots x → Begins x
+      in_first x has = ⊎_elim (λ none. absurd (nothing_there x none)) (λ (j, (first, e)). (j, (e, first)))
+          (gained.only x (subst (λ (zs : List ℕ). Contains zs x) is has))
 
-      first_in : (x : ℕ) → Begins x → IsRootOf roots 0 x
-      first_in x (j, (e, first)) =
-          contains_of roots (root_of x) (subst (λ (rs : List Root). Among rs (root_of x)) (sym is) (roots_have list x (among_of list x (gained.all x
-          (j, (first, e))))))
+      first_in : (x : ℕ) → Begins x → Contains roots x
+      first_in x (j, (e, first)) = subst (λ (zs : List ℕ). Contains zs x) (sym is) (gained.all x (j, (first, e)))
 
 pub rows_enough : (L N : ℕ) → N ≤ (L + 1) * N
 rows_enough L N = omega (arith, mul-le-mul_right N (let le : 1 ≤ L + 1 = omega arith in le))

@@ -1,77 +1,18 @@
--- Which operands are taken, by a walk and by the sites: and what the sites of a body have in common.
-use Rattle.std.proofs.Common.{◌≡◌, ℕ, zero, suc, ◌+◌, List, [], ◌∷◌, ◌++◌, Bool, true, false, Option, Some, None, replicate, drop, length, length-append, refl, ap, sym, ◌∙◌, subst, arith, append_assoc}
+-- Which operands are taken, by the sites: and what the sites of a body have in common.
+use Rattle.std.proofs.Common.{◌≡◌, ℕ, zero, suc, ◌+◌, List, [], ◌∷◌, ◌++◌, Bool, Some, None, replicate, drop, length, length-append, refl, ap, sym, ◌∙◌, subst, arith}
 use Rattle.std.specs.Prelude.{slice_get}
-use Rattle.std.proofs.lemmas.List.{append-nil}
-use Rattle.wasm_types.specs.declared.module.ValType.{ValType}
 use Rattle.wasm_types.specs.declared.place.Node.{Node}
 use Rattle.wasm_types.specs.declared.instr.Instr.{Instr, Block', Loop', If'}
 use Rattle.wasm_types.specs.declared.instr.Instr as instr
-use Rattle.wasm_types.specs.declared.instr.Instr.TheVariants.{Block, Loop, If}
-use Rattle.wasm_types.specs.Code.{Code, done, one, block, repeat, branch, onto, code_of_row, code_of, count, is_plain}
+use Rattle.wasm_types.specs.Code.{Code, done, one, block, repeat, branch, count}
 use Rattle.wasm_types.specs.Marked.{Marked, plain, marked, size}
-use Rattle.wasm_types.specs.Nodes.{Join, named, made}
+use Rattle.wasm_types.specs.Nodes.{Join, named}
 use Rattle.wasm_types.specs.Labels.{Label, arity, block_label, loop_label}
 use Rattle.wasm_types.specs.Actions.{Callees}
 use Rattle.wasm_types.specs.Sites.{Site, Sites, IsSite, sites}
-use Rattle.wasm_types.proofs.CodeLemmas.{onto-block, onto-loop, onto-if, onto-one}
 use Rattle.block_cfg.proofs.SiteLemmas.{size_marked}
-use Rattle.slice_closure.specs.declared.taken.Taken.{Taken}
-use Rattle.slice_closure.specs.declared.taken.Taken.TheVariants.{All}
+use Rattle.slice_closure.specs.declared.spot.Taken.{Taken}
 use Rattle.slice_closure.specs.Takens.{taken_by, taken_at, takens}
-
--- ---- what the walk finds
-
-is_one : Code → Bool
-is_one (one i rest) = true
-is_one _ = false
-
-holder_takes : (i : Instr) → is_one (onto i done) ≡ false → taken_by i ≡ All
-unfolding is_one onto code_of_row
-holder_takes (Block' k m inner) h = refl
-holder_takes (Loop' k m inner) h = refl
-holder_takes (If' k m first n second) h = refl
-holder_takes _ h = absurd cc
-
-module _ (i : Instr) (a b : List Taken) (made : b ≡ a ++ taken_by i ∷ []) where
-  pub block_takes : (k : Option ValType) (xs : List Instr) (c : List Taken) → i ≡ Block k xs → c ≡ b ++ takens (code_of xs) → c ≡ a ++ takens (onto i done)
-  unfolding is_one
-  block_takes k xs c is more =
-      let e : onto i done ≡ block k (code_of xs) done = ap (λ (z : Instr). onto z done) is ∙ onto-block k xs done in
-      let all : taken_by i ≡ All = holder_takes i (rw e refl) in
-      rw (e, more, made, all, append-nil (takens (code_of xs))) (append_assoc a (All ∷ []) (takens (code_of xs)))
-
-  pub loop_takes : (k : Option ValType) (xs : List Instr) (c : List Taken) → i ≡ Loop k xs → c ≡ b ++ takens (code_of xs) → c ≡ a ++ takens (onto i done)
-  unfolding is_one
-  loop_takes k xs c is more =
-      let e : onto i done ≡ repeat k (code_of xs) done = ap (λ (z : Instr). onto z done) is ∙ onto-loop k xs done in
-      let all : taken_by i ≡ All = holder_takes i (rw e refl) in
-      rw (e, more, made, all, append-nil (takens (code_of xs))) (append_assoc a (All ∷ []) (takens (code_of xs)))
-
-  pub if_takes : (k : Option ValType) (xs ys : List Instr) (c d : List Taken) → i ≡ If k xs ys → c ≡ b ++ takens (code_of xs) → d ≡ c ++ takens (code_of ys)
-      → d ≡ a ++ takens (onto i done)
-  unfolding is_one
-  if_takes k xs ys c d is more also =
-      let e : onto i done ≡ branch k (code_of xs) (code_of ys) done = ap (λ (z : Instr). onto z done) is ∙ onto-if k xs ys done in
-      let all : taken_by i ≡ All = holder_takes i (rw e refl) in
-      rw (e, also, more, made, all, append-nil (takens (code_of ys)))
-      (append_assoc (a ++ All ∷ []) (takens (code_of xs)) (takens (code_of ys)) ∙ append_assoc a (All ∷ []) (takens (code_of xs) ++ takens (code_of ys)))
-
-  pub one_takes : is_plain i ≡ true → b ≡ a ++ takens (onto i done)
-  one_takes h = rw (onto-one i done h, made) refl
-
--- of an instruction, and then of the rest
-takens-onto : (i : Instr) (rest : Code) → takens (onto i rest) ≡ takens (onto i done) ++ takens rest
-unfolding onto code_of_row
-takens-onto (Block' k m inner) rest = ap (λ (xs : List Taken). All ∷ (xs ++ takens rest)) (sym (append-nil (takens (code_of_row inner))))
-takens-onto (Loop' k m inner) rest = ap (λ (xs : List Taken). All ∷ (xs ++ takens rest)) (sym (append-nil (takens (code_of_row inner))))
-takens-onto (If' k m first n second) rest =
-    let x : List Taken = takens (code_of_row first) in let y : List Taken = takens (code_of_row second) in
-    ap (λ (xs : List Taken). All ∷ xs) (sym (append_assoc x y (takens rest)) ∙ ap (λ (z : List Taken). (x ++ z) ++ takens rest) (sym (append-nil y)))
-takens-onto _ rest = refl
-
-pub takens-next : (i : Instr) (rest : Code) (a b all : List Taken) → b ≡ a ++ takens (onto i done) → a ++ takens (onto i rest) ≡ all → b ++ takens rest ≡ all
-takens-next i rest a b all made e =
-    rw made (append_assoc a (takens (onto i done)) (takens rest) ∙ (ap (λ (xs : List Taken). a ++ xs) (sym (takens-onto i rest)) ∙ e))
 
 -- ---- positions and sites, one by one
 

@@ -1,4 +1,5 @@
 pub mod Takens
+pub mod Flow
 pub mod Items
 pub mod Next
 pub mod NextLaws

@@ -1,23 +1,27 @@
 -- Where a search for a kept set goes on (docs/ANALYSES.md, "The kept set"): each rule of the kept set leads from what is kept to what it keeps, and a location
 -- that is needed at a point is needed at the points before, back to what writes it.
-use Rattle.std.specs.Prelude.{◌≡◌, ℕ, ◌⊎◌, ◌||◌, ◌<◌, List, Bool, true, false, Option, Some, length, slice_get, slice_index_or}
+use Rattle.std.specs.Prelude.{◌≡◌, ℕ, ◌⊎◌, ◌<◌, List, Option, Some, slice_get}
 use Rattle.std.specs.List.{All, Contains}
 use Rattle.wasm_types.specs.declared.module.Pos.{Pos}
 use Rattle.wasm_types.specs.declared.place.Loc.{Loc}
+use Rattle.wasm_types.specs.declared.place.Loc.TheVariants.{Mem, Size}
 use Rattle.wasm_types.specs.declared.place.Node.{Node}
 use Rattle.wasm_types.specs.declared.place.Node.TheVariants as node
 use Rattle.wasm_types.specs.Code.{code_of}
 use Rattle.wasm_types.specs.Nodes.{At}
 use Rattle.wasm_types.specs.Reaching.{Writes}
-use Rattle.wasm_types.specs.Takers.{is_among}
-use Rattle.block_cfg.specs.Graph.{number, row_of}
+use Rattle.block_cfg.specs.Graph.{number}
 use Rattle.stack_names.specs.declared.place.Place.{Place}
 use Rattle.stack_names.specs.Named.{operands_in, of_node}
 use Rattle.control_deps.specs.Nest.{IsAround, IsNestOf}
 use Rattle.control_deps.specs.Nearest.{nearest_in}
 use Rattle.flow_domain.specs.declared.loc_table.LocUse.{LocUse}
-use Rattle.flow_domain.specs.LocTables.{row_in, WritesIn}
+use Rattle.slice_closure.specs.declared.spot.Came.TheVariants.{After}
+use Rattle.slice_closure.specs.declared.spot.Spot.{Spot}
+use Rattle.slice_closure.specs.declared.spot.Touch.{Touch}
+use Rattle.slice_closure.specs.declared.spot.Touch.TheVariants as touch
 use Rattle.slice_closure.specs.declared.tables.Tables.{Tables}
+use Rattle.slice_closure.specs.Flow.{uses_in, written_by, touch_at, taken_is, came_to, ways_to}
 use Rattle.slice_closure.specs.declared.items.Item.{Item}
 use Rattle.slice_closure.specs.declared.items.Item.TheVariants.{Keeps, Needs}
 use Rattle.slice_closure.specs.Items.{loc_number}
@@ -32,13 +36,21 @@ FromEach {A} list Q j = (x : A) × (Contains list x × Q x j)
 abbrev pub Maker : Place → Item → Type 0
 Maker place j = j ≡ Keeps place.maker
 
+abbrev pub spot_in : Tables → ℕ → Option Spot
+spot_in t p = slice_get t.flow.now.spots.items p
+
 -- the operands that the instruction at a position takes
 abbrev pub taken_places : Tables → ℕ → List Place
-taken_places t p = of_taken (slice_get t.taken.now p) (operands_in t.names.now.positions p)
+taken_places t p = of_taken (taken_is (spot_in t p)) (operands_in t.names.now.positions p)
 
--- a location that position p reads or checks
-abbrev pub Use : ℕ → LocUse → Item → Type 0
-Use p u j = ((u.reads || u.checks) ≡ true) × (j ≡ Needs u.loc (At p))
+-- the locations that position p reads or checks, by what it touches
+abbrev pub Asks : Touch → ℕ → Item → Type 0
+Asks touch.Nothing p j = ⊥
+Asks (touch.Reads x) p j = j ≡ Needs x (At p)
+Asks (touch.Writes x) p j = ⊥
+Asks (touch.Changes x) p j = j ≡ Needs x (At p)
+Asks touch.Loads p j = (j ≡ Needs Mem (At p)) ⊎ (j ≡ Needs Size (At p))
+Asks touch.Stores p j = (j ≡ Needs Mem (At p)) ⊎ (j ≡ Needs Size (At p))
 
 -- what is directly around a position, by the nesting of the body
 abbrev pub IsHolder : Tables → ℕ → Pos → Type 0
@@ -51,7 +63,7 @@ abbrev pub Joins : Node → Item → Type 0
 Joins m j = j ≡ Keeps m
 
 abbrev pub NextAt : Tables → Node → Item → Type 0
-NextAt t (node.At p) j = FromEach (taken_places t p.0) Maker j ⊎ (FromEach (row_in (slice_get t.locs.now p.0)) (Use p.0) j ⊎ Holder t p.0 j)
+NextAt t (node.At p) j = FromEach (taken_places t p.0) Maker j ⊎ (Asks (touch_at (spot_in t p.0)) p.0 j ⊎ Holder t p.0 j)
 NextAt t (node.Join b) j = j ≡ Keeps (At b.0)
 NextAt t node.Exit j = ⊥
 
@@ -65,9 +77,20 @@ NextDecider t n j = let near = nearest_in t.deciders.now n in Decider near.earli
 
 -- ---- from a location that is needed at a point
 
+-- what positions write
+abbrev pub Touched : Tables → ℕ → Loc → Type 0
+Touched t p x = written_by (touch_at (spot_in t p)) ≡ Some x
+
 -- on to a point before it: that is kept where it writes the location, and else the location is needed there
 abbrev pub Passes : Tables → Loc → Node → Item → Type 0
-Passes t x b j = (Writes (WritesIn t.locs.now) x b × (j ≡ Keeps b)) ⊎ ((Writes (WritesIn t.locs.now) x b → ⊥) × (j ≡ Needs x b))
+Passes t x b j = (Writes (Touched t) x b × (j ≡ Keeps b)) ⊎ ((Writes (Touched t) x b → ⊥) × (j ≡ Needs x b))
+
+-- point b leads to point a: as the walk came there, or by a branch or an end
+abbrev pub Arrives : Tables → Node → Node → Type 0
+Arrives t a b = came_to t.flow.now.spots.items a ≡ After b
+
+abbrev pub IsBefore : Tables → Node → Node → Type 0
+IsBefore t a b = Arrives t a b ⊎ Contains (ways_to t.flow.now.before.items a) b
 
 -- ---- from an item
 
@@ -77,19 +100,14 @@ First t at j = (j ≡ Keeps (At at.0)) ⊎ FromEach (operands_in t.names.now.pos
 
 abbrev pub Next : Tables → Item → Item → Type 0
 Next t (Keeps n) j = NextAt t n j ⊎ (FromEach (of_node t.names.now.joined n) Joins j ⊎ NextDecider t n j)
-Next t (Needs x a) j = Contains t.cfg.now.points a × FromEach (row_of t.cfg.now.before a) (Passes t x) j
+Next t (Needs x a) j = (b : Node) × (IsBefore t a b × Passes t x b j)
 
 -- nodes in the tables have numbers below N, and locations below L
 pub record Fits (N L : ℕ) (t : Tables) : Type 0 where
   pub operands : (p : ℕ) → All (λ (place : Place). number place.maker < N) (operands_in t.names.now.positions p)
   pub joined : (n : Node) → All (λ (m : Node). number m < N) (of_node t.names.now.joined n)
-  pub before : (n : Node) → All (λ (m : Node). number m < N) (row_of t.cfg.now.before n)
-  pub uses : (p : ℕ) → All (λ (u : LocUse). loc_number u.loc < L) (row_in (slice_get t.locs.now p))
+  pub before : (n m : Node) → IsBefore t n m → number m < N
+  pub uses : (p : ℕ) → All (λ (u : LocUse). loc_number u.loc < L) (uses_in (touch_at (spot_in t p)))
   pub earlier : (n : Node) (p : Pos) → (nearest_in t.deciders.now n).earlier ≡ Some p → number (At p.0) < N
   pub latest : (n : Node) (p : Pos) → (nearest_in t.deciders.now n).latest ≡ Some p → number (At p.0) < N
   pub nested : ∥ IsNestOf t.body.now t.nest.now ∥₁
-
--- by the number of a node, below N, whether it is among the points
-pub record AreMarked (points : List Node) (N : ℕ) (marks : List Bool) : Type 0 where
-  pub length_is : length marks ≡ N
-  pub marked : (n : Node) → number n < N → slice_index_or marks (number n) false ≡ is_among n points

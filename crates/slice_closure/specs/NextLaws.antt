@@ -1,6 +1,6 @@
 -- A search for a kept set stays among its items.
-use Rattle.std.specs.Prelude.{◌≡◌, ℕ, zero, suc, ◌+◌, ◌-◌, ◌*◌, ◌<◌, ◌≤◌, List, [], ◌∷◌, Option, Some, None, drop, length, slice_get}
-use Rattle.std.specs.List.{Contains}
+use Rattle.std.specs.Prelude.{◌≡◌, ℕ, zero, suc, ◌+◌, ◌-◌, ◌*◌, ◌<◌, ◌≤◌, List, [], ◌∷◌, Option, Some, None, drop, length}
+use Rattle.std.specs.List.{All, Contains}
 use Rattle.std.proofs.Common.{inl, inr, ⊎_elim, arith, subst, sym}
 use Rattle.std.proofs.Math.Nat.{mul-le-mul_right}
 use Rattle.std.proofs.lemmas.Bool.{cases_lt}
@@ -8,23 +8,27 @@ use Rattle.std.proofs.lemmas.Grind.{not_there}
 use Rattle.std.proofs.lemmas.List.Elements.{All-contains}
 use Rattle.wasm_types.specs.declared.module.Pos.{Pos}
 use Rattle.wasm_types.specs.declared.place.Loc.{Loc}
+use Rattle.wasm_types.specs.declared.place.Loc.TheVariants.{Mem, Size}
 use Rattle.wasm_types.specs.declared.place.Node.{Node}
 use Rattle.wasm_types.specs.declared.place.Node.TheVariants as node
 use Rattle.wasm_types.specs.Nodes.{At}
-use Rattle.block_cfg.specs.Graph.{number, row_of}
+use Rattle.block_cfg.specs.Graph.{number}
 use Rattle.worklist.specs.Packed.{PackedEdge}
 use Rattle.stack_names.specs.declared.place.Place.{Place}
 use Rattle.stack_names.specs.Named.{operands_in, of_node}
 use Rattle.flow_domain.specs.declared.loc_table.LocUse.{LocUse}
-use Rattle.flow_domain.specs.LocTables.{row_in}
+use Rattle.flow_domain.specs.LocRows.{reading, changing}
 use Rattle.slice_closure.specs.declared.tables.Tables.{Tables}
-use Rattle.slice_closure.specs.declared.taken.Taken.{Taken}
-use Rattle.slice_closure.specs.declared.taken.Taken.TheVariants as taken
+use Rattle.slice_closure.specs.declared.spot.Taken.{Taken}
+use Rattle.slice_closure.specs.declared.spot.Taken.TheVariants as taken
+use Rattle.slice_closure.specs.declared.spot.Touch.{Touch}
+use Rattle.slice_closure.specs.declared.spot.Touch.TheVariants as touch
+use Rattle.slice_closure.specs.Flow.{uses_in, touch_at, taken_is}
 use Rattle.slice_closure.specs.declared.items.Item.{Item}
 use Rattle.slice_closure.specs.declared.items.Item.TheVariants.{Keeps, Needs}
 use Rattle.slice_closure.specs.Items.{loc_number, item_number, IsItem}
 use Rattle.slice_closure.specs.Takens.{of_taken}
-use Rattle.slice_closure.specs.Next.{IsHolder, NextAt, Next, Fits}
+use Rattle.slice_closure.specs.Next.{spot_in, Asks, IsHolder, NextAt, Next, Fits}
 
 past : {A : Type 0} (n : ℕ) (xs : List A) (x : A) → Contains (drop n xs) x → Contains xs x
 past zero xs x h = h
@@ -47,6 +51,18 @@ keeps_item N L n j e lt = subst (IsItem N L) (sym e) lt
 needs_item : (N L : ℕ) (x : Loc) (n : Node) (j : Item) → j ≡ Needs x n → loc_number x < L → number n < N → IsItem N L j
 needs_item N L x n j e below lt = subst (IsItem N L) (sym e) (below, lt)
 
+-- a location that is read or checked is among the uses
+asked_item : (N L : ℕ) (touch : Touch) (p : ℕ) → All (λ (u : LocUse). loc_number u.loc < L) (uses_in touch) → number (At p) < N → (j : Item) → Asks touch p j
+    → IsItem N L j
+asked_item N L touch.Nothing p below lt j h = absurd h
+asked_item N L (touch.Reads x) p below lt j h = needs_item N L x (At p) j h (below 0 (reading x) (omega arith)) lt
+asked_item N L (touch.Writes x) p below lt j h = absurd h
+asked_item N L (touch.Changes x) p below lt j h = needs_item N L x (At p) j h (below 0 (changing x) (omega arith)) lt
+asked_item N L touch.Loads p below lt j h = ⊎_elim (λ e. needs_item N L Mem (At p) j e (below 0 (reading Mem) (omega arith)) lt)
+    (λ e. needs_item N L Size (At p) j e (below 1 (reading Mem) (omega arith)) lt) h
+asked_item N L touch.Stores p below lt j h = ⊎_elim (λ e. needs_item N L Mem (At p) j e (below 0 (reading Mem) (omega arith)) lt)
+    (λ e. needs_item N L Size (At p) j e (below 1 (reading Mem) (omega arith)) lt) h
+
 module _ (N L : ℕ) (t : Tables) (fits : Fits N L t) where
   -- what is around a position stands before it
   holder_before : (p : ℕ) (b : Pos) → IsHolder t p b → b.0 < p
@@ -58,10 +74,9 @@ module _ (N L : ℕ) (t : Tables) (fits : Fits N L t) where
   next_at_item : (n : Node) → number n < N → (j : Item) → NextAt t n j → IsItem N L j
   next_at_item (node.At p) lt j h = ⊎_elim
       (λ (place, (has, e)). keeps_item N L place.maker j e (All-contains (λ (q : Place). number q.maker < N) (operands_in t.names.now.positions p.0) place
-      (fits.operands p.0) (taken_there (slice_get t.taken.now p.0) (operands_in t.names.now.positions p.0) place has)))
+      (fits.operands p.0) (taken_there (taken_is (spot_in t p.0)) (operands_in t.names.now.positions p.0) place has)))
       (λ r. ⊎_elim
-      (λ (u, (has, (used, e))). needs_item N L u.loc (At p.0) j e (All-contains (λ (v : LocUse). loc_number v.loc < L) (row_in (slice_get t.locs.now p.0)) u
-      (fits.uses p.0) has) lt)
+      (λ asked. asked_item N L (touch_at (spot_in t p.0)) p.0 (fits.uses p.0) lt j asked)
       (λ (b, (around, e)). let before = holder_before p.0 b around in keeps_item N L (At b.0) j e (omega arith)) r)
       h
   next_at_item (node.Join b) lt j h = keeps_item N L (At b.0) j h (omega arith)
@@ -76,8 +91,8 @@ module _ (N L : ℕ) (t : Tables) (fits : Fits N L t) where
       (λ (p, (near, e)). keeps_item N L (At p.0) j e (fits.earlier n p near))
       (λ (p, (near, e)). keeps_item N L (At p.0) j e (fits.latest n p near)) d) r)
       h
-  next_item (Needs x a) ok j (point, (b, (has, on))) =
-      let lt = All-contains (λ (k : Node). number k < N) (row_of t.cfg.now.before a) b (fits.before a) has in
+  next_item (Needs x a) ok j (b, (comes, on)) =
+      let lt = fits.before a b comes in
       ⊎_elim (λ (w, e). keeps_item N L b j e lt) (λ (free, e). needs_item N L x b j e ok.0 lt) on
 
 -- items have numbers below the bound

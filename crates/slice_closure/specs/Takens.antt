@@ -5,8 +5,8 @@ use Rattle.wasm_types.specs.declared.instr.Instr as instr
 use Rattle.wasm_types.specs.Code.{Code, done, one, block, repeat, branch}
 use Rattle.wasm_types.specs.Sites.{Head, BrHead, BrIfHead, BrTableHead, ReturnHead}
 use Rattle.stack_names.specs.declared.place.Place.{Place}
-use Rattle.slice_closure.specs.declared.taken.Taken.{Taken}
-use Rattle.slice_closure.specs.declared.taken.Taken.TheVariants.{All, Last, Nothing}
+use Rattle.slice_closure.specs.declared.spot.Taken.{Taken}
+use Rattle.slice_closure.specs.declared.spot.Taken.TheVariants.{All, Last, Nothing}
 
 abbrev pub taken_by : Instr → Taken
 taken_by (instr.Br l) = Nothing

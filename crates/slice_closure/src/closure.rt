@@ -10,7 +10,8 @@ ghost use Rattle.wasm_types.specs.Subset.{IsSealed};
 ghost use Rattle.block_cfg.specs.Points.{HasPoints};
 ghost use Rattle.slice_closure.specs.Made.{AreMade};
 ghost use Rattle.wasm_types.specs.Spaces.{HasBody, body_of, func_types, import_count, type_of_func};
-ghost use Rattle.worklist.specs.Bits.{HasBit};
+ghost use Rattle.worklist.specs.Search.{IsMarked};
+ghost use Rattle.sparse_reach.specs.Flags.{flags};
 ghost use Rattle.worklist.specs.Gains.{Gains};
 ghost use Rattle.worklist.specs.Reached.{Reached};
 ghost use Rattle.block_cfg.specs.Graph.{number};
@@ -21,70 +22,38 @@ ghost use Rattle.flow_domain.specs.Sliced.{KeptAt};
 ghost use Rattle.slice_closure.specs.Items.{Numbered};
 ghost use Rattle.slice_closure.specs.Next as spec;
 
-use crate::bounds::locs_bound;
+use crate::flow::Flow;
 use crate::items::{Item, Numbering};
 use crate::search::Closing;
 use crate::tables::Tables;
-use crate::taken::takens;
-use block_cfg::{Cfg, edges, law_bodies_have_points, point_number, point_of_number};
+use block_cfg::{law_bodies_have_points, point_of_number};
 use control_deps::{Deciders, Nest};
-use flow_domain::{Kept, plain_locs};
-use sparse_reach::{SparseRows, reach_sparse};
+use flow_domain::Kept;
+use sparse_reach::{Marks, reach_few};
 use stack_names::{Names, names};
 use stack_repair::law_valid_has_heights;
 use std::alloc::Global;
 use wasm_types::{Body, NoMemory, Node, Pos, ValidModule};
-use worklist::Root;
-
-/// By the number of a node whether it is a point.
-fn points_of(alloc: Global, cfg: &Cfg, nodes: usize) -> Result<Vec<bool>, NoMemory>
-    requires { All (λ point. number point < nodes) cfg.now.points }
-    ensures { IfOk result (λ marks. spec.AreMarked cfg.now.points nodes marks.items) }
-{
-    let mut marks = vec![in alloc; false; nodes].map_err(|_| NoMemory)?;
-    for point in cfg.points() {
-        marks[point_number(*point)] = true;
-    }
-    Ok(marks)
-}
-
-/// Nodes as the roots of one label.
-fn roots_of(alloc: Global, nodes: &[usize]) -> Result<Vec<Root>, NoMemory>
-    ensures { IfOk result (λ roots. roots.items ≡ map (λ node. record { label = 0; node = node }) nodes.now) }
-{
-    let mut roots = Vec::new(alloc);
-    for node in nodes {
-        roots
-            .push(Root {
-                label: 0,
-                node: *node,
-            })
-            .map_err(|_| NoMemory)?;
-    }
-    Ok(roots)
-}
 
 /// Keeps the node of a number, if the search met it.
-fn keep(kept: &mut Kept, index: usize, met: &SparseRows) -> Result<(), NoMemory>
+fn keep(kept: &mut Kept, index: usize, met: &Marks) -> Result<(), NoMemory>
     requires few { index < 2 ^ 20 }
     requires short { length kept.old ≤ 2 ^ 20 }
-    requires row { index < met.now.rows }
-    requires words { 0 < met.now.words * 64 }
-    ensures held { IfOk result (λ _. (n : Node) → holds kept.new n ≡ true ↔ ((holds kept.old n ≡ true) ⊎ ((number n ≡ index) × HasBit met.now.words met.now.bits index 0))) }
+    requires marked { index < length (flags met.now.words) }
+    ensures held { IfOk result (λ _. (n : Node) → holds kept.new n ≡ true ↔ ((holds kept.old n ≡ true) ⊎ ((number n ≡ index) × IsMarked (flags met.now.words) index))) }
     ensures short { (end : ℕ) → index < end → length kept.old ≤ end → length kept.new ≤ end }
 {
-    if met.has(index, 0) {
+    if met.has(index) {
         kept.add(point_of_number(index))?;
     }
     Ok(())
 }
 
 /// The nodes among the items that a search met.
-fn kept_of(alloc: Global, nodes: usize, met: &SparseRows) -> Result<Kept, NoMemory>
+fn kept_of(alloc: Global, nodes: usize, met: &Marks) -> Result<Kept, NoMemory>
     requires few { nodes ≤ 2 ^ 20 }
-    requires rows { nodes ≤ met.now.rows }
-    requires words { 0 < met.now.words * 64 }
-    ensures { IfOk result (λ kept. (n : Node) → holds kept n ≡ true ↔ ((number n < nodes) × HasBit met.now.words met.now.bits (number n) 0)) }
+    requires marked { nodes ≤ length (flags met.now.words) }
+    ensures { IfOk result (λ kept. (n : Node) → holds kept n ≡ true ↔ ((number n < nodes) × IsMarked (flags met.now.words) (number n))) }
 {
     let mut kept = Kept::new(alloc);
     for index in 0..nodes {
@@ -110,8 +79,7 @@ fn search(alloc: Global, closing: &Closing, at: Pos) -> Result<Kept, NoMemory>
     ensures { IfOk result (λ kept. (n : Node) → holds kept n ≡ true ↔ Reached (spec.First closing.now.tables at) (spec.Next closing.now.tables) (Item.Keeps n)) }
 {
     let list = first(alloc, closing, at)?;
-    let roots = roots_of(alloc, &list)?;
-    let met = reach_sparse(alloc, closing, 1, &roots)?;
+    let met = reach_few(alloc, closing, &list)?;
     let kept = kept_of(alloc, closing.numbering.nodes, &met)?;
     Ok(kept)
 }
@@ -129,12 +97,10 @@ fn close_tables(
     ensures { IfOk result (λ kept. (t : FuncType) (b : Body) → type_of_func m.now func ≡ Some t → HasBody m.now func b → Tells (holds kept) (KeptAt (callees m.now) t b at.0)) }
 {
     let nodes = 2 * tables.body.count() as usize + 1;
-    let points = points_of(alloc, tables.cfg, nodes)?;
-    let locs = locs_bound(tables.locs);
+    let locs = tables.flow.locs_bound();
     let closing = Closing {
         tables,
         numbering: Numbering { nodes, locs },
-        points: &points,
     };
     let kept = search(alloc, &closing, at)?;
     Ok(kept)
@@ -172,19 +138,15 @@ fn close_live(
 {
     law_valid_has_heights();
     let body = own_body(m, func);
-    let cfg = edges(alloc, body)?;
-    let locs = plain_locs(alloc, m, func)?;
+    let flow = Flow::of(alloc, body)?;
     let nest = Nest::of(alloc, body)?;
     let deciders = Deciders::of(alloc, &nest)?;
-    let taken = takens(alloc, body)?;
     let tables = Tables {
         body,
-        cfg: &cfg,
+        flow: &flow,
         names,
-        locs: &locs,
         nest: &nest,
         deciders: &deciders,
-        taken: &taken,
     };
     let kept = close_tables(alloc, m, func, tables, at)?;
     Ok(kept)

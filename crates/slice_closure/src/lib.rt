@@ -1,11 +1,12 @@
 //! Which nodes of a body a watched position depends on.
 #![tactic(auto)]
 
-mod bounds;
 mod closure;
+mod flow;
 mod items;
 mod search;
+mod spot;
 mod tables;
-mod taken;
+mod walk;
 
 pub use closure::{close, close_named};

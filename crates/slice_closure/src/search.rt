@@ -1,25 +1,25 @@
 //! The search for a kept set.
 
-ghost use Rattle.std.specs.Prelude.{◌≡◌, ◌+◌, ◌*◌, ◌^◌, ◌<◌, ◌≤◌, ◌||◌, ◌↔◌, ℕ, IfOk, IsTrue, Some, length, slice_get, true};
+ghost use Rattle.std.specs.Prelude.{◌≡◌, ◌+◌, ◌*◌, ◌<◌, ◌≤◌, ◌↔◌, ◌⊎◌, ℕ, IfOk, IsTrue, Some, length};
 ghost use Rattle.std.specs.List.{All, Contains};
 ghost use Rattle.worklist.specs.Gains.{Gains};
 ghost use Rattle.worklist.specs.Packed.{PackedEdge};
 ghost use Rattle.wasm_types.specs.Nodes.{At};
-ghost use Rattle.block_cfg.specs.Graph.{number, row_of};
+ghost use Rattle.block_cfg.specs.Graph.{number};
 ghost use Rattle.stack_names.specs.Named.{of_node, operands_in};
 ghost use Rattle.wasm_types.specs.declared.module.Pos.{Pos};
 ghost use Rattle.wasm_types.specs.Reaching.{Writes};
-ghost use Rattle.flow_domain.specs.LocTables.{WritesIn, row_in};
+ghost use Rattle.wasm_types.specs.declared.place.Node.{Node};
+ghost use Rattle.wasm_types.specs.declared.place.Loc.TheVariants.{Mem, Size};
+ghost use Rattle.slice_closure.specs.Flow.{touch_at, ways_to};
 ghost use Rattle.slice_closure.specs.declared.items.Item.{Item};
 ghost use Rattle.slice_closure.specs.Items.{IsItem, Numbered, item_number, loc_number};
 ghost use Rattle.slice_closure.specs.Next as spec;
 ghost use Rattle.slice_closure.specs.NextLaws.{next_stays};
 
 use crate::items::{Item, Numbering};
+use crate::spot::{Came, Taken, Touch};
 use crate::tables::Tables;
-use crate::taken::Taken;
-use block_cfg::point_number;
-use flow_domain::LocUse;
 use stack_names::Place;
 use wasm_types::{Loc, NoMemory, Node, Point, Pos};
 use worklist::Graph;
@@ -29,11 +29,8 @@ use worklist::Graph;
 pub(crate) struct Closing<'a> {
     pub(crate) tables: Tables<'a>,
     pub(crate) numbering: Numbering,
-    /// By the number of a node whether it is a point.
-    pub(crate) points: &'a [bool],
     ghost fits: { spec.Fits numbering.nodes numbering.locs tables },
     ghost nodes: { numbering.nodes ≡ 2 * length tables.nest.now + 1 },
-    ghost pointed: { spec.AreMarked tables.cfg.now.points numbering.nodes points.now },
 }
 
 impl Closing<'_> {
@@ -71,25 +68,42 @@ impl Closing<'_> {
         Ok(())
     }
 
-    fn push_use(&self, pos: Pos, one: LocUse, next: &mut Vec<usize>) -> Result<(), NoMemory>
-        requires node { number (At pos.0) < self.now.numbering.nodes }
-        requires loc { loc_number one.loc < self.now.numbering.locs }
-        ensures { IfOk result (λ _. Gains (Numbered self.now.numbering.nodes (spec.Use pos.0 one)) next.old.items next.new.items) }
-    {
-        if one.reads || one.checks {
-            self.push(Item::Needs(one.loc, Node::At(pos)), next)?;
-        }
-        Ok(())
-    }
-
     /// What a position reads and checks.
     fn push_uses(&self, pos: Pos, next: &mut Vec<usize>) -> Result<(), NoMemory>
         requires { number (At pos.0) < self.now.numbering.nodes }
-        ensures { IfOk result (λ _. Gains (Numbered self.now.numbering.nodes (spec.FromEach (row_in (slice_get self.now.tables.locs.now pos.0)) (spec.Use pos.0))) next.old.items next.new.items) }
+        ensures { IfOk result (λ _. Gains (Numbered self.now.numbering.nodes (spec.Asks (touch_at (spec.spot_in self.now.tables pos.0)) pos.0)) next.old.items next.new.items) }
     {
-        for one in self.tables.locs.uses(pos.0 as usize) {
-            self.push_use(pos, *one, next)?;
+        let point = Node::At(pos);
+        match self.tables.flow.touch(pos) {
+            Touch::Nothing => Ok(()),
+            Touch::Writes(_) => Ok(()),
+            Touch::Reads(loc) => {
+                self.push(Item::Needs(loc, point), next)?;
+                Ok(())
+            }
+            Touch::Changes(loc) => {
+                self.push(Item::Needs(loc, point), next)?;
+                Ok(())
+            }
+            Touch::Loads => {
+                self.push_memory(point, next)?;
+                Ok(())
+            }
+            Touch::Stores => {
+                self.push_memory(point, next)?;
+                Ok(())
+            }
         }
+    }
+
+    /// The memory and its size.
+    fn push_memory(&self, point: Point, next: &mut Vec<usize>) -> Result<(), NoMemory>
+        requires node { number point < self.now.numbering.nodes }
+        requires locs { 2 ≤ self.now.numbering.locs }
+        ensures { IfOk result (λ _. Gains (Numbered self.now.numbering.nodes (λ j. (j ≡ Item.Needs Mem point) ⊎ (j ≡ Item.Needs Size point))) next.old.items next.new.items) }
+    {
+        self.push(Item::Needs(Loc::Mem, point), next)?;
+        self.push(Item::Needs(Loc::Size, point), next)?;
         Ok(())
     }
 
@@ -98,7 +112,7 @@ impl Closing<'_> {
         ensures { result.now ≡ spec.taken_places self.now.tables pos.0 }
     {
         let places = self.tables.names.operands(pos);
-        match self.tables.taken.get(pos.0 as usize) {
+        match self.tables.flow.taken(pos) {
             Some(Taken::All) => places,
             Some(Taken::Last) => &places[places.len().saturating_sub(1)..],
             _ => &[],
@@ -157,10 +171,10 @@ impl Closing<'_> {
 
     /// Whether a point writes a location.
     fn writes(&self, point: Point, loc: Loc) -> bool
-        ensures { IsTrue result ↔ Writes (WritesIn self.now.tables.locs.now) loc point }
+        ensures { IsTrue result ↔ Writes (spec.Touched self.now.tables) loc point }
     {
         match point {
-            Point::At(pos) => self.tables.locs.writes(pos, loc),
+            Point::At(pos) => self.tables.flow.touch(pos).writes(loc),
             Point::Join(_) => false,
             Point::Exit => false,
         }
@@ -190,18 +204,39 @@ impl Closing<'_> {
         Ok(())
     }
 
-    /// From a location that is needed at a point.
-    fn push_before(&self, loc: Loc, point: Point, next: &mut Vec<usize>) -> Result<(), NoMemory>
-        requires node { number point < self.now.numbering.nodes }
+    /// On to the point after which the walk came to a point.
+    fn push_came(&self, loc: Loc, point: Point, next: &mut Vec<usize>) -> Result<(), NoMemory>
         requires loc { loc_number loc < self.now.numbering.locs }
-        ensures { IfOk result (λ _. Gains (Numbered self.now.numbering.nodes (spec.Next self.now.tables (Item.Needs loc point))) next.old.items next.new.items) }
+        ensures { IfOk result (λ _. Gains (Numbered self.now.numbering.nodes (λ j. (b : Node) × (spec.Arrives self.now.tables point b × spec.Passes self.now.tables loc b j))) next.old.items next.new.items) }
     {
-        if !self.points[point_number(point)] {
-            return Ok(());
+        match self.tables.flow.came(point) {
+            Came::After(earlier) => {
+                self.push_earlier(loc, earlier, next)?;
+                Ok(())
+            }
+            Came::First => Ok(()),
+            Came::Never => Ok(()),
         }
-        for earlier in self.tables.cfg.before(point) {
+    }
+
+    /// On to the points that lead to a point by branches and ends.
+    fn push_ways(&self, loc: Loc, point: Point, next: &mut Vec<usize>) -> Result<(), NoMemory>
+        requires loc { loc_number loc < self.now.numbering.locs }
+        ensures { IfOk result (λ _. Gains (Numbered self.now.numbering.nodes (spec.FromEach (ways_to self.now.tables.flow.now.before.items point) (spec.Passes self.now.tables loc))) next.old.items next.new.items) }
+    {
+        for earlier in self.tables.flow.before(point) {
             self.push_earlier(loc, *earlier, next)?;
         }
+        Ok(())
+    }
+
+    /// From a location that is needed at a point.
+    fn push_before(&self, loc: Loc, point: Point, next: &mut Vec<usize>) -> Result<(), NoMemory>
+        requires { loc_number loc < self.now.numbering.locs }
+        ensures { IfOk result (λ _. Gains (Numbered self.now.numbering.nodes (spec.Next self.now.tables (Item.Needs loc point))) next.old.items next.new.items) }
+    {
+        self.push_came(loc, point, next)?;
+        self.push_ways(loc, point, next)?;
         Ok(())
     }
 

@@ -2,17 +2,11 @@ use Rattle.std.proofs.Common.{◌≡◌, ◌≤◌, ◌+◌, ◌*◌, ◌∙◌,
 use Rattle.wasm_types.specs.Code.{code_of, count, flatten}
 use Rattle.wasm_types.proofs.CodeLemmas.{length-flatten}
 use Rattle.control_deps.proofs.SpotLemmas.{length_spots}
-use Rattle.slice_closure.proofs.Right.{at_below, points_fit, tables_fit, search_tells}
+use Rattle.slice_closure.proofs.Right.{at_below, tables_fit, search_tells}
 use Rattle.slice_closure.proofs.closure.close_tables.Goals as goal
 
 pub count-requires : goal.count-requires
 count-requires c = let few : length (flatten (code_of c.args.tables.body.now.code)) ≤ 200000 = c.requires.points.positions in omega arith
-
-pub points_of-requires : goal.points_of-requires
-points_of-requires c =
-    let t = c.args.tables in
-    let e : 2 * c.count.result + 1 ≡ 2 * count (code_of t.body.now.code) + 1 = omega (arith, c.count.ensures, length-flatten (code_of t.body.now.code)) in
-    points_fit c.args.m.now c.args.func c.args.at t c.requires.made (2 * c.count.result + 1) e
 
 pub invariant_of-closing-2 : goal.invariant_of-closing-2
 invariant_of-closing-2 c =
@@ -24,7 +18,6 @@ invariant_of-closing-2 c =
       fits = tables_fit c.args.m.now c.args.func c.args.at t c.requires.made
           (2 * c.count.result + 1) c.locs_bound-locs.result e c.locs_bound-locs.ensures.below;
       nodes = omega arith;
-      pointed = rw c.deref.ensures.value c.in_ok-points.ensures;
     }
 
 pub search-requires : goal.search-requires

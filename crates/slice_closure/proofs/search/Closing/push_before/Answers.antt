@@ -1,38 +1,19 @@
-use Rattle.std.specs.List.{Contains}
-use Rattle.block_cfg.specs.Graph.{row_of}
+use Rattle.std.proofs.Common.{◌⊎◌, inl, inr, ⊎_elim}
+use Rattle.wasm_types.specs.declared.place.Node.{Node}
+use Rattle.slice_closure.specs.declared.items.Item.{Item}
 use Rattle.slice_closure.specs.declared.items.Item.TheVariants.{Needs}
-use Rattle.slice_closure.specs.Next.{FromEach, Passes, Next}
-use Rattle.slice_closure.proofs.Pushes.{each_more, each_all, numbered_none, numbered_same, off_point, on_point}
+use Rattle.slice_closure.specs.Flow.{ways_to}
+use Rattle.slice_closure.specs.Next.{FromEach, Arrives, Passes, Next}
+use Rattle.slice_closure.proofs.Pushes.{numbered_same, numbered_both}
 use Rattle.slice_closure.proofs.search.Closing.push_before.Goals as goal
-
-pub returns-then-not-self-point_number : goal.returns-then-not-self-point_number
-returns-then-not-self-point_number c =
-    let t = c.args.self.now.tables in
-    let N = c.args.self.now.numbering.nodes in
-    numbered_none N (Next t (Needs c.args.loc c.args.point)) c.args.next.now.items
-    (λ j (has, on). off_point t.cfg.now.points N c.args.self.now.points.now c.args.self.now.pointed c.args.point c.point_number.result c.point_number.ensures
-    c.requires.node c.if-not-self-point_number.true has)
-
-pub before-earlier-items-requires : goal.before-earlier-items-requires
-before-earlier-items-requires c =
-    on_point c.args.self.now.tables.cfg.now.points c.args.self.now.numbering.nodes c.args.self.now.points.now c.args.self.now.pointed c.args.point
-    c.point_number.result c.point_number.ensures c.requires.node c.if-not-self-point_number.false
-
-pub loop-earlier-preserved : goal.loop-earlier-preserved
-loop-earlier-preserved c =
-    each_more c.args.self.now.numbering.nodes (Passes c.args.self.now.tables c.args.loc) c.before-earlier-items.result.now c.loop-earlier.earlier-index _
-    c.args.next.now.items c.loop-earlier.next.items c.push_earlier.new.next.items
-    c.loop-earlier-test.true c.loop-earlier.invariant c.in_ok-push_earlier.ensures
 
 pub returns : goal.returns
 returns c =
     let t = c.args.self.now.tables in
     let N = c.args.self.now.numbering.nodes in
-    let has : Contains t.cfg.now.points c.args.point =
-    on_point t.cfg.now.points N c.args.self.now.points.now c.args.self.now.pointed c.args.point c.point_number.result c.point_number.ensures c.requires.node
-    c.if-not-self-point_number.false in
-    let row = row_of t.cfg.now.before c.args.point in
-    numbered_same N (FromEach row (Passes t c.args.loc)) (Next t (Needs c.args.loc c.args.point)) c.args.next.now.items c.loop-earlier.next.items
-    (λ j e. (has, e)) (λ j h. h.1)
-    (each_all N (Passes t c.args.loc) c.before-earlier-items.result.now row c.loop-earlier.earlier-index c.args.next.now.items c.loop-earlier.next.items
-    c.loop-earlier-test.false c.before-earlier-items.ensures c.loop-earlier.invariant)
+    let P : Item → Type 0 = λ j. (b : Node) × (Arrives t c.args.point b × Passes t c.args.loc b j) in
+    let Q : Item → Type 0 = FromEach (ways_to t.flow.now.before.items c.args.point) (Passes t c.args.loc) in
+    numbered_same N (λ j. P j ⊎ Q j) (Next t (Needs c.args.loc c.args.point)) c.args.next.now.items c.push_ways.new.next.items
+    (λ j h. ⊎_elim (λ (b, (a, on)). (b, (inl a, on))) (λ (b, (w, on)). (b, (inr w, on))) h)
+    (λ j (b, (comes, on)). ⊎_elim (λ a. inl (b, (a, on))) (λ w. inr (b, (w, on))) comes)
+    (numbered_both N P Q c.args.next.now.items c.push_came.new.next.items c.push_ways.new.next.items c.in_ok-push_came.ensures c.in_ok-push_ways.ensures)

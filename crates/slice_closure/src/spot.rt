@@ -1,0 +1,108 @@
+//! What is kept of a position.
+
+ghost use Rattle.std.specs.Prelude.{◌≡◌, ◌↔◌, IsTrue, Some};
+ghost use Rattle.slice_closure.specs.Flow as spec;
+ghost use Rattle.slice_closure.specs.Takens.{taken_by};
+
+use wasm_types::{Instr, Loc, Point};
+
+/// How a walk comes to an instruction: not at all where it is dead, first of all, or after a point that leads to it.
+#[derive(Clone, Copy, Drop)]
+pub(crate) enum Came {
+    Never,
+    First,
+    After(Point),
+}
+
+/// What an instruction does to locations. A change keeps a part of what was there; what loads and stores depends on the size of the memory, too.
+#[derive(Clone, Copy, Drop)]
+pub(crate) enum Touch {
+    Nothing,
+    Reads(Loc),
+    Writes(Loc),
+    Changes(Loc),
+    Loads,
+    Stores,
+}
+
+/// Which of its operands a kept instruction takes: all, the last alone, or nothing. A branch doesn't take the values that it carries.
+#[derive(Clone, Copy, Drop)]
+pub(crate) enum Taken {
+    All,
+    Last,
+    Nothing,
+}
+
+/// A position.
+#[derive(Clone, Copy, Drop)]
+pub(crate) struct Spot {
+    pub(crate) came: Came,
+    pub(crate) touch: Touch,
+    pub(crate) taken: Taken,
+}
+
+/// On from a point, where the walk came there at all.
+pub(crate) fn through(came: Came, point: Point) -> Came
+    ensures { result ≡ spec.through came point }
+{
+    match came {
+        Came::Never => Came::Never,
+        _ => Came::After(point),
+    }
+}
+
+pub(crate) fn touch_of(instr: &Instr) -> Touch
+    ensures { result ≡ spec.touch_of instr.now }
+{
+    match instr {
+        Instr::LocalGet(local) => Touch::Reads(Loc::Local(*local)),
+        Instr::LocalSet(local) | Instr::LocalTee(local) => Touch::Writes(Loc::Local(*local)),
+        Instr::GlobalGet(global) => Touch::Reads(Loc::Global(*global)),
+        Instr::GlobalSet(global) => Touch::Writes(Loc::Global(*global)),
+        Instr::Load(_, _) => Touch::Loads,
+        Instr::Store(_, _) | Instr::MemoryCopy | Instr::MemoryFill => Touch::Stores,
+        Instr::MemorySize => Touch::Reads(Loc::Size),
+        Instr::MemoryGrow => Touch::Changes(Loc::Size),
+        _ => Touch::Nothing,
+    }
+}
+
+pub(crate) fn taken_by(instr: &Instr) -> Taken
+    ensures { result ≡ taken_by instr.now }
+{
+    match instr {
+        Instr::Br(_) | Instr::Return => Taken::Nothing,
+        Instr::BrIf(_) | Instr::BrTable(_, _) => Taken::Last,
+        _ => Taken::All,
+    }
+}
+
+fn is_same(first: Loc, second: Loc) -> bool
+    ensures { IsTrue result ↔ first ≡ second }
+{
+    first == second
+}
+
+impl Touch {
+    /// What it writes.
+    fn written(self) -> Option<Loc>
+        ensures { result ≡ spec.written_by self }
+    {
+        match self {
+            Touch::Writes(loc) => Some(loc),
+            Touch::Changes(loc) => Some(loc),
+            Touch::Stores => Some(Loc::Mem),
+            _ => None,
+        }
+    }
+
+    /// Whether it writes a location.
+    pub(crate) fn writes(self, loc: Loc) -> bool
+        ensures { IsTrue result ↔ spec.written_by self ≡ Some loc }
+    {
+        match self.written() {
+            Some(written) => is_same(written, loc),
+            None => false,
+        }
+    }
+}
