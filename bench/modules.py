@@ -110,8 +110,8 @@ def many_locals(sets, locals_=8192):
     return HEADER + section(1, counted([b"\x60\x00\x00"])) + section(3, counted([b"\0"])) + section(10, counted([sized(body)]))
 
 
-def largest_function(bytes_):
-    """The number of the function whose body has most bytes, imported functions counted; none where there is no body."""
+def functions_by_size(bytes_):
+    """The numbers of the functions that have bodies, imported functions counted, those with most bytes first."""
 
     def read(at):
         value = shift = 0
@@ -131,7 +131,7 @@ def largest_function(bytes_):
         _, at = read(at + 1)
         return read(at)[1] if has_most else at
 
-    at, imported, found = 8, 0, None
+    at, imported, found = 8, 0, []
     while at < len(bytes_):
         identity = bytes_[at]
         size, at = read(at + 1)
@@ -150,10 +150,15 @@ def largest_function(bytes_):
                 size, at = read(at)
                 sizes.append(size)
                 at += size
-            if sizes:
-                found = imported + max(range(count), key=sizes.__getitem__)
+            found = [imported + place for place in sorted(range(count), key=lambda place: -sizes[place])]
         at = end
     return found
+
+
+def largest_function(bytes_):
+    """The number of the function whose body has most bytes, imported functions counted; none where there is no body."""
+    found = functions_by_size(bytes_)
+    return found[0] if found else None
 
 
 def loop_text(laps, lap, before="", locals_of="(local $i i32) (local $x i32) (local $y i32)"):
