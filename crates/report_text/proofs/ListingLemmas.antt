@@ -13,18 +13,12 @@ use Rattle.wasm_types.proofs.CodeLemmas.{onto-block, onto-loop, onto-if, onto-on
 use Rattle.report_text.specs.InstructionTexts.{block_text, instruction_text}
 use Rattle.report_text.specs.Listing.{Told, arms_lines, closing_line, contents_lines, else_lines, end_makers, ended_by, ends_at, indent, last_arm, lines, maker_at, makers_in, position_line}
 
-spaces : (depth : ℕ) → indent depth ≡ replicate (2 * depth) 32
+-- two spaces for each
+pub spaces : (depth : ℕ) → indent depth ≡ replicate (2 * depth) 32
 spaces zero = refl
 spaces (suc depth) =
     let e : suc (suc (2 * depth)) ≡ 2 * suc depth = omega arith in
     ap (λ (l : List ℕ). 32 ∷ 32 ∷ l) (spaces depth) ∙ ap (λ n. replicate n 32) e
-
--- a text that was made longer by spaces
-pub indented : (begun now : List ℕ) (long depth : ℕ) → long ≡ length begun + 2 * depth → now ≡ take long begun ++ replicate (long - length begun) 32 → now ≡ begun ++ indent depth
-indented begun now long depth e h =
-    let le : length begun ≤ long = omega arith in
-    let f : long - length begun ≡ 2 * depth = omega arith in
-    h ∙ ap₂ {A = List ℕ} {B = List ℕ} (λ a b. a ++ b) (take_all long begun le) (ap (λ n. replicate n 32) f ∙ sym (spaces depth))
 
 -- ---- the first instruction of a sequence, and those after it
 

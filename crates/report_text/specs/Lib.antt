@@ -4,3 +4,5 @@ pub mod InstructionTexts
 pub mod Listing
 pub mod ListingOf
 pub mod KeptTexts
+pub mod Placed
+pub mod Drafts

@@ -1,10 +1,13 @@
 //! Instructions by their names and immediates. Each function fails only where an allocation is refused.
 
-ghost use Rattle.std.specs.Prelude.{◌≡◌, ◌++◌, codes, decimal, OnOk};
+ghost use Rattle.std.specs.Prelude.{◌≡◌, ◌++◌, ◌≤◌, codes, decimal, length, OnOk};
+ghost use Rattle.std.specs.Fmt.{signed_decimal};
+ghost use Rattle.report_text.specs.Drafts.{written};
 ghost use Rattle.report_text.specs.InstructionTexts as texts;
 ghost use Rattle.report_text.specs.InstructionTexts.{instruction_text, number_after, numbers_after, operation_name};
 
-use itoa::Buffer;
+use crate::draft::Draft;
+use crate::place::{MOST_DIGITS, MOST_SIGNED, place_byte, place_number, place_signed, place_text};
 use std::alloc::AllocError;
 use wasm_types::{
     BinOp, Instr, LoadOp, LowOp, MemArg, NumOp, RelOp, StoreOp, UnOp, ValType, Width,
@@ -12,7 +15,8 @@ use wasm_types::{
 
 /// The name of a type.
 fn type_name(kind: ValType) -> &'static str
-    ensures { result.now ≡ texts.type_name kind }
+    ensures is { result.now ≡ texts.type_name kind }
+    ensures short { length result.now ≤ 16 }
 {
     match kind {
         ValType::I32 => "i32",
@@ -24,7 +28,8 @@ fn type_name(kind: ValType) -> &'static str
 
 /// What stands before the name of an operation.
 fn width_prefix(op: Width) -> &'static str
-    ensures { result.now ≡ texts.width_prefix op }
+    ensures is { result.now ≡ texts.width_prefix op }
+    ensures short { length result.now ≤ 16 }
 {
     match op {
         Width::W32 => "i32.",
@@ -34,7 +39,8 @@ fn width_prefix(op: Width) -> &'static str
 
 /// The name of an operation on one integer.
 fn unary_name(op: UnOp) -> &'static str
-    ensures { result.now ≡ texts.unary_name op }
+    ensures is { result.now ≡ texts.unary_name op }
+    ensures short { length result.now ≤ 16 }
 {
     match op {
         UnOp::Clz => "clz",
@@ -45,7 +51,8 @@ fn unary_name(op: UnOp) -> &'static str
 
 /// The name of a comparison.
 fn relation_name(op: RelOp) -> &'static str
-    ensures { result.now ≡ texts.relation_name op }
+    ensures is { result.now ≡ texts.relation_name op }
+    ensures short { length result.now ≤ 16 }
 {
     match op {
         RelOp::Eq => "eq",
@@ -63,7 +70,8 @@ fn relation_name(op: RelOp) -> &'static str
 
 /// The name of an operation on two integers.
 fn binary_name(op: BinOp) -> &'static str
-    ensures { result.now ≡ texts.binary_name op }
+    ensures is { result.now ≡ texts.binary_name op }
+    ensures short { length result.now ≤ 16 }
 {
     match op {
         BinOp::Add => "add",
@@ -86,7 +94,8 @@ fn binary_name(op: BinOp) -> &'static str
 
 /// The name of a sign extension.
 fn extension_name(op: LowOp) -> &'static str
-    ensures { result.now ≡ texts.extension_name op }
+    ensures is { result.now ≡ texts.extension_name op }
+    ensures short { length result.now ≤ 16 }
 {
     match op {
         LowOp::I32S8 => "i32.extend8_s",
@@ -99,7 +108,8 @@ fn extension_name(op: LowOp) -> &'static str
 
 /// The name of a load.
 fn load_name(op: LoadOp) -> &'static str
-    ensures { result.now ≡ texts.load_name op }
+    ensures is { result.now ≡ texts.load_name op }
+    ensures short { length result.now ≤ 16 }
 {
     match op {
         LoadOp::I32 => "i32.load",
@@ -119,7 +129,8 @@ fn load_name(op: LoadOp) -> &'static str
 
 /// The name of a store.
 fn store_name(op: StoreOp) -> &'static str
-    ensures { result.now ≡ texts.store_name op }
+    ensures is { result.now ≡ texts.store_name op }
+    ensures short { length result.now ≤ 16 }
 {
     match op {
         StoreOp::I32 => "i32.store",
@@ -133,30 +144,39 @@ fn store_name(op: StoreOp) -> &'static str
 }
 
 /// Adds a text.
-pub(crate) fn push_text(out: &mut Vec<u8>, text: &str) -> Result<(), AllocError>
-    ensures { OnOk result (out.new.items ≡ out.old.items ++ text.now) }
+#[inline]
+pub(crate) fn push_text(out: &mut Draft, text: &str) -> Result<(), AllocError>
+    ensures { OnOk result (written out.new ≡ written out.old ++ text.now) }
 {
-    out.extend_from_slice(text.as_bytes())
+    out.reserve(text.len())?;
+    out.len = place_text(out.bytes.as_mut_slice(), out.len, text.as_bytes());
+    Ok(())
 }
 
 /// Adds a number.
-pub(crate) fn push_number(out: &mut Vec<u8>, number: u32) -> Result<(), AllocError>
-    ensures { OnOk result (out.new.items ≡ out.old.items ++ decimal number) }
+#[inline]
+pub(crate) fn push_number(out: &mut Draft, number: u32) -> Result<(), AllocError>
+    ensures { OnOk result (written out.new ≡ written out.old ++ decimal number) }
 {
-    push_text(out, Buffer::new().format(number))
+    out.reserve(MOST_DIGITS)?;
+    out.len = place_number(out.bytes.as_mut_slice(), out.len, number);
+    Ok(())
 }
 
 /// Adds a space and a number.
-pub(crate) fn push_number_after(out: &mut Vec<u8>, number: u32) -> Result<(), AllocError>
-    ensures { OnOk result (out.new.items ≡ out.old.items ++ number_after number) }
+#[inline]
+pub(crate) fn push_number_after(out: &mut Draft, number: u32) -> Result<(), AllocError>
+    ensures { OnOk result (written out.new ≡ written out.old ++ number_after number) }
 {
-    push_text(out, " ")?;
-    push_number(out, number)
+    out.reserve(1 + MOST_DIGITS)?;
+    let at = place_byte(out.bytes.as_mut_slice(), out.len, b' ');
+    out.len = place_number(out.bytes.as_mut_slice(), at, number);
+    Ok(())
 }
 
 /// Adds a space and a number, for each of them.
-fn push_numbers_after(out: &mut Vec<u8>, numbers: &[u32]) -> Result<(), AllocError>
-    ensures { OnOk result (out.new.items ≡ out.old.items ++ numbers_after numbers.now) }
+fn push_numbers_after(out: &mut Draft, numbers: &[u32]) -> Result<(), AllocError>
+    ensures { OnOk result (written out.new ≡ written out.old ++ numbers_after numbers.now) }
 {
     for number in numbers {
         push_number_after(out, *number)?;
@@ -165,16 +185,16 @@ fn push_numbers_after(out: &mut Vec<u8>, numbers: &[u32]) -> Result<(), AllocErr
 }
 
 /// Adds the name of an operation of a width.
-fn push_of_width(out: &mut Vec<u8>, width: Width, name: &str) -> Result<(), AllocError>
-    ensures { OnOk result (out.new.items ≡ out.old.items ++ (texts.width_prefix width ++ name.now)) }
+fn push_of_width(out: &mut Draft, width: Width, name: &str) -> Result<(), AllocError>
+    ensures { OnOk result (written out.new ≡ written out.old ++ (texts.width_prefix width ++ name.now)) }
 {
     push_text(out, width_prefix(width))?;
     push_text(out, name)
 }
 
 /// Adds the name of an operation on integers.
-fn push_operation(out: &mut Vec<u8>, op: NumOp) -> Result<(), AllocError>
-    ensures { OnOk result (out.new.items ≡ out.old.items ++ operation_name op) }
+fn push_operation(out: &mut Draft, op: NumOp) -> Result<(), AllocError>
+    ensures { OnOk result (written out.new ≡ written out.old ++ operation_name op) }
 {
     match op {
         NumOp::Eqz(width) => push_of_width(out, width, "eqz"),
@@ -189,8 +209,8 @@ fn push_operation(out: &mut Vec<u8>, op: NumOp) -> Result<(), AllocError>
 }
 
 /// Adds the name of a load or a store, its alignment exponent and its offset.
-fn push_access(out: &mut Vec<u8>, name: &str, place: MemArg) -> Result<(), AllocError>
-    ensures { OnOk result (out.new.items ≡ out.old.items ++ (name.now ++ (number_after place.align ++ number_after place.offset))) }
+fn push_access(out: &mut Draft, name: &str, place: MemArg) -> Result<(), AllocError>
+    ensures { OnOk result (written out.new ≡ written out.old ++ (name.now ++ (number_after place.align ++ number_after place.offset))) }
 {
     push_text(out, name)?;
     push_number_after(out, place.align)?;
@@ -199,11 +219,11 @@ fn push_access(out: &mut Vec<u8>, name: &str, place: MemArg) -> Result<(), Alloc
 
 /// Adds a name, and the type of a block, loop or if where it has a result.
 pub(crate) fn push_block(
-    out: &mut Vec<u8>,
+    out: &mut Draft,
     name: &str,
     kind: Option<ValType>,
 ) -> Result<(), AllocError>
-    ensures { OnOk result (out.new.items ≡ out.old.items ++ texts.block_text name.now kind) }
+    ensures { OnOk result (written out.new ≡ written out.old ++ texts.block_text name.now kind) }
 {
     push_text(out, name)?;
     let Some(kind) = kind else {
@@ -214,25 +234,36 @@ pub(crate) fn push_block(
 }
 
 /// Adds a name, a space and a number.
-fn push_named(out: &mut Vec<u8>, name: &str, number: u32) -> Result<(), AllocError>
-    ensures { OnOk result (out.new.items ≡ out.old.items ++ (name.now ++ number_after number)) }
+#[inline]
+fn push_named(out: &mut Draft, name: &str, number: u32) -> Result<(), AllocError>
+    ensures { OnOk result (written out.new ≡ written out.old ++ (name.now ++ number_after number)) }
 {
     push_text(out, name)?;
     push_number_after(out, number)
 }
 
 /// Adds a table of labels and its default.
-fn push_table(out: &mut Vec<u8>, labels: &[u32], other: u32) -> Result<(), AllocError>
-    ensures { OnOk result (out.new.items ≡ out.old.items ++ (codes "br_table" ++ (numbers_after labels.now ++ number_after other))) }
+fn push_table(out: &mut Draft, labels: &[u32], other: u32) -> Result<(), AllocError>
+    ensures { OnOk result (written out.new ≡ written out.old ++ (codes "br_table" ++ (numbers_after labels.now ++ number_after other))) }
 {
     push_text(out, "br_table")?;
     push_numbers_after(out, labels)?;
     push_number_after(out, other)
 }
 
+/// Adds a name and a number with its sign.
+fn push_constant(out: &mut Draft, name: &str, number: i64) -> Result<(), AllocError>
+    ensures { OnOk result (written out.new ≡ written out.old ++ (name.now ++ signed_decimal number)) }
+{
+    push_text(out, name)?;
+    out.reserve(MOST_SIGNED)?;
+    out.len = place_signed(out.bytes.as_mut_slice(), out.len, number);
+    Ok(())
+}
+
 /// Adds an instruction that holds no others and is none on floats: its name, and its immediates, each after a space.
-pub(crate) fn push_instruction(out: &mut Vec<u8>, instr: &Instr) -> Result<(), AllocError>
-    ensures { OnOk result (out.new.items ≡ out.old.items ++ instruction_text instr.now) }
+pub(crate) fn push_instruction(out: &mut Draft, instr: &Instr) -> Result<(), AllocError>
+    ensures { OnOk result (written out.new ≡ written out.old ++ instruction_text instr.now) }
 {
     match instr {
         Instr::Unreachable => push_text(out, "unreachable"),
@@ -257,27 +288,11 @@ pub(crate) fn push_instruction(out: &mut Vec<u8>, instr: &Instr) -> Result<(), A
         Instr::Store(op, place) => push_access(out, store_name(*op), *place),
         Instr::MemorySize => push_text(out, "memory.size"),
         Instr::MemoryGrow => push_text(out, "memory.grow"),
-        Instr::I32Const(n) => push_constant(
-            out,
-            "i32.const ",
-            Buffer::new().format(n.cast_signed()),
-        ),
-        Instr::I64Const(n) => push_constant(
-            out,
-            "i64.const ",
-            Buffer::new().format(n.cast_signed()),
-        ),
+        Instr::I32Const(n) => push_constant(out, "i32.const ", i64::from(n.cast_signed())),
+        Instr::I64Const(n) => push_constant(out, "i64.const ", n.cast_signed()),
         Instr::Num(op) => push_operation(out, *op),
         Instr::Float(_) => Ok(()),
         Instr::MemoryCopy => push_text(out, "memory.copy"),
         Instr::MemoryFill => push_text(out, "memory.fill"),
     }
-}
-
-/// Adds a name and a number that is a text already.
-fn push_constant(out: &mut Vec<u8>, name: &str, number: &str) -> Result<(), AllocError>
-    ensures { OnOk result (out.new.items ≡ out.old.items ++ (name.now ++ number.now)) }
-{
-    push_text(out, name)?;
-    push_text(out, number)
 }

@@ -2,8 +2,10 @@
 
 ghost use Rattle.std.specs.Prelude.{◌≡◌, ◌++◌, IfOk, OnOk};
 ghost use Rattle.flow_domain.specs.KeptSets.{holds};
+ghost use Rattle.report_text.specs.Drafts.{written};
 ghost use Rattle.report_text.specs.KeptTexts.{kept_lines, node_line};
 
+use crate::draft::Draft;
 use crate::instruction::push_text;
 use crate::listing::push_node;
 use flow_domain::Kept;
@@ -11,8 +13,8 @@ use std::alloc::{AllocError, Global};
 use wasm_types::{NoMemory, Node, Pos};
 
 /// Adds the line of a node, where it is kept.
-fn push_kept(out: &mut Vec<u8>, kept: &Kept, node: Node) -> Result<(), AllocError>
-    ensures { OnOk result (out.new.items ≡ out.old.items ++ node_line (holds kept.now) node) }
+fn push_kept(out: &mut Draft, kept: &Kept, node: Node) -> Result<(), AllocError>
+    ensures { OnOk result (written out.new ≡ written out.old ++ node_line (holds kept.now) node) }
 {
     if !kept.has(node) {
         return Ok(());
@@ -26,10 +28,10 @@ fn push_kept(out: &mut Vec<u8>, kept: &Kept, node: Node) -> Result<(), AllocErro
 pub fn kept_text(alloc: Global, kept: &Kept, count: u32) -> Result<Vec<u8>, NoMemory>
     ensures { IfOk result (λ text. text.items ≡ kept_lines (holds kept.now) count) }
 {
-    let mut text = Vec::new(alloc);
+    let mut text = Draft::new(alloc);
     for at in 0..count {
         push_kept(&mut text, kept, Node::At(Pos(at)))?;
         push_kept(&mut text, kept, Node::Join(Pos(at)))?;
     }
-    Ok(text)
+    Ok(text.into_bytes())
 }

@@ -1,10 +1,13 @@
 //! The texts that the program prints, each worded here alone (docs/COMMANDS.md).
 #![tactic(auto)]
 
+mod draft;
 mod instruction;
 mod kept;
 mod listing;
+mod place;
 mod refusal;
+mod room;
 mod run;
 mod text;
 

@@ -8,15 +8,20 @@ ghost use Rattle.report_text.specs.Listing as words;
 ghost use Rattle.stack_names.specs.Named.{AreNames};
 ghost use Rattle.wasm_types.specs.Funcs.{unwatched};
 ghost use Rattle.report_text.specs.ListingOf.{told_by, maker_of};
+ghost use Rattle.report_text.specs.Drafts.{written};
 
-use crate::instruction::{push_block, push_instruction, push_number, push_text};
+use crate::draft::Draft;
+use crate::instruction::{
+    push_block, push_instruction, push_number, push_number_after, push_text,
+};
+use crate::place::{MOST_DIGITS, place_beginning, place_indent};
 use stack_names::{Names, Place};
 use std::alloc::{AllocError, Global};
 use wasm_types::{Instr, NoMemory, Node, Pos, Taker, ValType, ValidModule};
 
 /// Adds a node's name: a position by its number, and a block's end by j and the block's number.
-pub(crate) fn push_node(out: &mut Vec<u8>, node: Node) -> Result<(), AllocError>
-    ensures { OnOk result (out.new.items ≡ out.old.items ++ node_text node) }
+pub(crate) fn push_node(out: &mut Draft, node: Node) -> Result<(), AllocError>
+    ensures { OnOk result (written out.new ≡ written out.old ++ node_text node) }
 {
     match node {
         Node::At(Pos(at)) => push_number(out, at),
@@ -28,31 +33,44 @@ pub(crate) fn push_node(out: &mut Vec<u8>, node: Node) -> Result<(), AllocError>
     }
 }
 
+/// Adds a space and a node's name.
+#[inline]
+fn push_node_after(out: &mut Draft, node: Node) -> Result<(), AllocError>
+    ensures { OnOk result (written out.new ≡ written out.old ++ (codes " " ++ node_text node)) }
+{
+    match node {
+        Node::At(Pos(at)) => push_number_after(out, at),
+        Node::Join(Pos(at)) => {
+            push_text(out, " j")?;
+            push_number(out, at)
+        }
+        Node::Exit => push_text(out, " "),
+    }
+}
+
 /// Adds a space and a node's name, for each of them.
-fn push_nodes(out: &mut Vec<u8>, nodes: &[Node]) -> Result<(), AllocError>
-    ensures { OnOk result (out.new.items ≡ out.old.items ++ nodes_after nodes.now) }
+fn push_nodes(out: &mut Draft, nodes: &[Node]) -> Result<(), AllocError>
+    ensures { OnOk result (written out.new ≡ written out.old ++ nodes_after nodes.now) }
 {
     for node in nodes {
-        push_text(out, " ")?;
-        push_node(out, *node)?;
+        push_node_after(out, *node)?;
     }
     Ok(())
 }
 
 /// Adds a space and the name of the maker, for each value.
-fn push_makers(out: &mut Vec<u8>, places: &[Place]) -> Result<(), AllocError>
-    ensures { OnOk result (out.new.items ≡ out.old.items ++ nodes_after (map maker_of places.now)) }
+fn push_makers(out: &mut Draft, places: &[Place]) -> Result<(), AllocError>
+    ensures { OnOk result (written out.new ≡ written out.old ++ nodes_after (map maker_of places.now)) }
 {
     for place in places {
-        push_text(out, " ")?;
-        push_node(out, place.maker)?;
+        push_node_after(out, place.maker)?;
     }
     Ok(())
 }
 
 /// Adds the operands of a position, where it has any, or that it is dead.
-fn push_operands(out: &mut Vec<u8>, names: &Names, at: u32) -> Result<(), AllocError>
-    ensures { OnOk result (out.new.items ≡ out.old.items ++ operands_text ((told_by names.now).operands at)) }
+fn push_operands(out: &mut Draft, names: &Names, at: u32) -> Result<(), AllocError>
+    ensures { OnOk result (written out.new ≡ written out.old ++ operands_text ((told_by names.now).operands at)) }
 {
     if !names.live(Pos(at)) {
         return push_text(out, " dead");
@@ -66,24 +84,24 @@ fn push_operands(out: &mut Vec<u8>, names: &Names, at: u32) -> Result<(), AllocE
 }
 
 /// Adds two spaces for each block around.
-fn push_indent(out: &mut Vec<u8>, depth: usize) -> Result<(), AllocError>
+fn push_indent(out: &mut Draft, depth: usize) -> Result<(), AllocError>
     requires { depth < 2 ^ 32 }
-    ensures { OnOk result (out.new.items ≡ out.old.items ++ indent depth) }
+    ensures { OnOk result (written out.new ≡ written out.old ++ indent depth) }
 {
-    let long = out.as_slice().len() + 2 * depth;
-    out.resize(long, b' ')?;
+    out.reserve(2 * depth)?;
+    out.len = place_indent(out.bytes.as_mut_slice(), out.len, depth);
     Ok(())
 }
 
 /// Adds the line of an else or an end, with the makers of the values that the closed sequence ends with.
 fn push_closing(
-    out: &mut Vec<u8>,
+    out: &mut Draft,
     depth: usize,
     words: &str,
     makers: &[Node],
 ) -> Result<(), AllocError>
     requires { depth < 2 ^ 32 }
-    ensures { OnOk result (out.new.items ≡ out.old.items ++ closing_line depth words.now makers.now) }
+    ensures { OnOk result (written out.new ≡ written out.old ++ closing_line depth words.now makers.now) }
 {
     push_text(out, ". ")?;
     push_indent(out, depth)?;
@@ -96,25 +114,25 @@ fn push_closing(
 }
 
 /// Adds what stands before an instruction: its position, and two spaces for each block around it.
-fn push_beginning(out: &mut Vec<u8>, at: u32, depth: usize) -> Result<(), AllocError>
+fn push_beginning(out: &mut Draft, at: u32, depth: usize) -> Result<(), AllocError>
     requires { depth < 2 ^ 32 }
-    ensures { OnOk result (out.new.items ≡ out.old.items ++ (decimal at ++ (codes " " ++ indent depth))) }
+    ensures { OnOk result (written out.new ≡ written out.old ++ (decimal at ++ (codes " " ++ indent depth))) }
 {
-    push_number(out, at)?;
-    push_text(out, " ")?;
-    push_indent(out, depth)
+    out.reserve(MOST_DIGITS + 1 + 2 * depth)?;
+    out.len = place_beginning(out.bytes.as_mut_slice(), out.len, at, depth);
+    Ok(())
 }
 
 /// Adds the line of an instruction that holds no others.
 fn push_plain(
-    out: &mut Vec<u8>,
+    out: &mut Draft,
     names: &Names,
     instr: &Instr,
     at: u32,
     depth: usize,
 ) -> Result<(), AllocError>
     requires { depth < 2 ^ 32 }
-    ensures { OnOk result (out.new.items ≡ out.old.items ++ position_line (told_by names.now) depth at (instruction_text instr.now)) }
+    ensures { OnOk result (written out.new ≡ written out.old ++ position_line (told_by names.now) depth at (instruction_text instr.now)) }
 {
     push_beginning(out, at, depth)?;
     push_instruction(out, instr)?;
@@ -124,7 +142,7 @@ fn push_plain(
 
 /// Adds the line of a block, loop or if.
 fn push_opening(
-    out: &mut Vec<u8>,
+    out: &mut Draft,
     names: &Names,
     words: &str,
     kind: Option<ValType>,
@@ -132,7 +150,7 @@ fn push_opening(
     depth: usize,
 ) -> Result<(), AllocError>
     requires { depth < 2 ^ 32 }
-    ensures { OnOk result (out.new.items ≡ out.old.items ++ position_line (told_by names.now) depth at (block_text words.now kind)) }
+    ensures { OnOk result (written out.new ≡ written out.old ++ position_line (told_by names.now) depth at (block_text words.now kind)) }
 {
     push_beginning(out, at, depth)?;
     push_block(out, words, kind)?;
@@ -190,7 +208,7 @@ struct Ended {
 #[cycle(sequence)]
 fn push_sequence(
     alloc: Global,
-    out: &mut Vec<u8>,
+    out: &mut Draft,
     names: &Names,
     code: &[Instr],
     at: u32,
@@ -199,7 +217,7 @@ fn push_sequence(
 ) -> Result<Ended, AllocError>
     requires within { depth ≤ at }
     requires short { at + count (code_of code.now) < 2 ^ 32 }
-    ensures lines { IfOk result (λ ended. out.new.items ≡ out.old.items ++ lines (told_by names.now) depth (code_of code.now) at) }
+    ensures lines { IfOk result (λ ended. written out.new ≡ written out.old ++ lines (told_by names.now) depth (code_of code.now) at) }
     ensures makers { IfOk result (λ ended. ended.makers.items ≡ ended_by (told_by names.now) end (code_of code.now) at) }
     ensures next { IfOk result (λ ended. ended.next ≡ at + count (code_of code.now)) }
 {
@@ -216,7 +234,7 @@ fn push_sequence(
 #[cycle(sequence)]
 fn push_contents(
     alloc: Global,
-    out: &mut Vec<u8>,
+    out: &mut Draft,
     names: &Names,
     code: &[Instr],
     at: u32,
@@ -224,7 +242,7 @@ fn push_contents(
 ) -> Result<u32, AllocError>
     requires within { depth ≤ at }
     requires short { at + 1 + count (code_of code.now) < 2 ^ 32 }
-    ensures lines { IfOk result (λ next. out.new.items ≡ out.old.items ++ contents_lines (told_by names.now) depth (code_of code.now) at) }
+    ensures lines { IfOk result (λ next. written out.new ≡ written out.old ++ contents_lines (told_by names.now) depth (code_of code.now) at) }
     ensures next { IfOk result (λ next. next ≡ at + 1 + count (code_of code.now)) }
 {
     let end = Node::Join(Pos(at));
@@ -237,7 +255,7 @@ fn push_contents(
 #[cycle(sequence)]
 fn push_arms(
     alloc: Global,
-    out: &mut Vec<u8>,
+    out: &mut Draft,
     names: &Names,
     first: &[Instr],
     second: &[Instr],
@@ -246,7 +264,7 @@ fn push_arms(
 ) -> Result<u32, AllocError>
     requires within { depth ≤ at }
     requires short { at + 1 + count (code_of first.now) + count (code_of second.now) < 2 ^ 32 }
-    ensures lines { IfOk result (λ next. out.new.items ≡ out.old.items ++ arms_lines (told_by names.now) depth (code_of first.now) (code_of second.now) at) }
+    ensures lines { IfOk result (λ next. written out.new ≡ written out.old ++ arms_lines (told_by names.now) depth (code_of first.now) (code_of second.now) at) }
     ensures next { IfOk result (λ next. next ≡ at + 1 + count (code_of first.now) + count (code_of second.now)) }
 {
     let end = Node::Join(Pos(at));
@@ -265,7 +283,7 @@ fn push_arms(
 #[cycle(sequence)]
 fn push_instr(
     alloc: Global,
-    out: &mut Vec<u8>,
+    out: &mut Draft,
     names: &Names,
     instr: &Instr,
     at: u32,
@@ -273,7 +291,7 @@ fn push_instr(
 ) -> Result<u32, AllocError>
     requires within { depth ≤ at }
     requires short { at + count (onto instr.now done) < 2 ^ 32 }
-    ensures lines { IfOk result (λ next. out.new.items ≡ out.old.items ++ lines (told_by names.now) depth (onto instr.now done) at) }
+    ensures lines { IfOk result (λ next. written out.new ≡ written out.old ++ lines (told_by names.now) depth (onto instr.now done) at) }
     ensures next { IfOk result (λ next. next ≡ at + count (onto instr.now done)) }
 {
     match instr {
@@ -314,13 +332,13 @@ pub fn list_text(
     requires { AreNames m.now func unwatched names.now }
     ensures { IfOk result (λ text. text.items ≡ listing m.now func) }
 {
-    let mut out = Vec::new(alloc);
+    let mut out = Draft::new(alloc);
     let m = m.module();
     let Some(body) = m.body(func) else {
-        return Ok(out);
+        return Ok(out.into_bytes());
     };
     let code = body.code.as_slice();
     let ended = push_sequence(alloc, &mut out, names, code, 0, 0, Node::Exit)?;
     push_closing(&mut out, 0, "end", ended.makers.as_slice())?;
-    Ok(out)
+    Ok(out.into_bytes())
 }
