@@ -6,17 +6,18 @@ ghost use Rattle.stack_names.specs.Spans.{span_of};
 
 use crate::part::part;
 use crate::place::Place;
-use crate::push::push;
+use crate::push::{push, push_all};
 use std::alloc::Global;
 use std::marker::Model;
 use wasm_types::NoMemory;
 
-/// Where the places of a live position stand: those of its stack from `start` to `end`, the last of which, from `operands` on, are its operands.
+/// Where the places of a live position stand: those of its stack from `start` to `end`, the last of which, from `operands` on, are its operands. The numbers
+/// are short, since there is a span for each position.
 #[derive(Clone, Copy)]
 pub(crate) struct Span {
-    start: usize,
-    operands: usize,
-    end: usize,
+    start: u32,
+    operands: u32,
+    end: u32,
 }
 
 /// What each position takes and shows: as a list, the operands and the stack of each live position, in the order of positions.
@@ -75,18 +76,21 @@ impl Lists {
         Ok(())
     }
 
-    /// A live position more, which shows this stack and takes the places from number `from` on.
+    /// A live position more, which shows this stack and takes the places from number `from` on. Over 2^32 places don't fit.
     pub(crate) fn add(&mut self, stack: &[Place], from: usize) -> Result<(), NoMemory>
         requires { from ≤ length stack.now }
         ensures { IfOk result (λ _. self.new ≡ self.old ++ Some (record { operands = drop from stack.now; stack = stack.now }) ∷ []) }
     {
         let start = self.places.as_slice().len();
-        self.places.extend_from_slice(stack)?;
-        let end = self.places.as_slice().len();
+        let end = start + stack.len();
+        if end > u32::MAX as usize {
+            return Err(NoMemory);
+        }
+        push_all(&mut self.places, stack)?;
         let span = Span {
-            start,
-            operands: start + from,
-            end,
+            start: start as u32,
+            operands: (start + from) as u32,
+            end: end as u32,
         };
         push(&mut self.spans, Some(span))?;
         Ok(())
@@ -104,7 +108,11 @@ impl Lists {
         ensures { result.now ≡ operands_in self.now pos }
     {
         match span_at(self.spans.as_slice(), pos) {
-            Some(span) => part(self.places.as_slice(), span.operands, span.end),
+            Some(span) => part(
+                self.places.as_slice(),
+                span.operands as usize,
+                span.end as usize,
+            ),
             None => &[],
         }
     }
@@ -114,7 +122,11 @@ impl Lists {
         ensures { result.now ≡ stack_in self.now pos }
     {
         match span_at(self.spans.as_slice(), pos) {
-            Some(span) => part(self.places.as_slice(), span.start, span.end),
+            Some(span) => part(
+                self.places.as_slice(),
+                span.start as usize,
+                span.end as usize,
+            ),
             None => &[],
         }
     }
