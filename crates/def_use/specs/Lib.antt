@@ -5,3 +5,4 @@ pub mod Previous
 pub mod Writers
 pub mod Tables
 pub mod Kept
+pub mod Again

@@ -1,11 +1,13 @@
 //! Answers that are kept, to be asked again.
 
 ghost use Rattle.std.specs.Prelude.{◌≡◌, ◌+◌, ◌↔◌, ℕ, IfOk, IfSome, IsSome, IsTrue, length, []};
+ghost use Rattle.std.specs.Borrow.{sem};
 ghost use Rattle.std.specs.List.{All, Contains};
 ghost use Rattle.wasm_types.specs.declared.place.Loc.{Loc};
 ghost use Rattle.flow_domain.specs.LocTables.{Rows};
 ghost use Rattle.def_use.specs.Answers.{IsAnswer, IsGraph};
 ghost use Rattle.def_use.specs.Kept.{AreRight, IsKept, IsMadeFor};
+ghost use Rattle.def_use.specs.Again.{StaysRight};
 ghost use Rattle.def_use.specs.Places as spec;
 
 use crate::places::place_of;
@@ -124,7 +126,8 @@ impl Reach {
         Ok(())
     }
 
-    /// The definitions of a location that reach a point, as `reaching` answers them. It finds them where none are kept, and keeps them.
+    /// The definitions of a location that reach a point, as `reaching` answers them. It finds them where none are kept, and keeps them. It can be
+    /// asked again, also after an error.
     pub fn of(
         &mut self,
         alloc: Global,
@@ -137,7 +140,9 @@ impl Reach {
         requires point { Contains cfg.now.points point }
         requires made { IsMadeFor cfg.now self.old }
         requires right { AreRight cfg.now locs.now self.old }
-        ensures { IfOk result (λ defs. IsAnswer cfg.now locs.now loc point defs.now) }
+        ensures answer { IfOk result (λ defs. IsAnswer cfg.now locs.now loc point defs.now) }
+        // Once the answer is looked at no more, it can be asked again.
+        ensures* again { sem 𝓛 (StaysRight self.entry cfg.now locs.now) }
     {
         self.learn(alloc, cfg, locs, point, loc)?;
         match self.known(cfg, point, loc) {
