@@ -8,5 +8,6 @@ pub mod Bounds
 pub mod Law
 pub mod Rows
 pub mod Reach
+pub mod Touch
 pub mod LocRows
 pub mod LocTables
