@@ -1,3 +1,5 @@
 pub mod KeptLaws
 pub mod Shapes
 pub mod LocLemmas
+pub mod Summing
+pub mod Tabling

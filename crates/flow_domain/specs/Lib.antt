@@ -11,3 +11,4 @@ pub mod Reach
 pub mod Touch
 pub mod LocRows
 pub mod LocTables
+pub mod Summaries
