@@ -48,38 +48,85 @@ fn has_few_results(m: &Module) -> bool
         .all(|kind| kind.results.len() <= 1)
 }
 
-#[test]
-fn copies_a_module_and_a_body(rt: HostRuntime) -> Result<(), Fail> {
-    let module = decoded(&rt, WHOLE)?;
-    let Ok(copy) = module.copy(rt.alloc()) else {
+// The canonical spelling of a module.
+fn spelled(rt: &HostRuntime, m: &Module) -> Result<Vec<u8>, Fail>
+    requires well_formed { IsWellFormed m.now }
+    requires short { length (canon m.now) ≤ 8388608 }
+{
+    match encode(rt.alloc(), m) {
+        Ok(text) => Ok(text),
+        Err(_) => Err("no memory")?,
+    }
+}
+
+// The canonical spelling of a copy of a module.
+fn copied_text(rt: &HostRuntime, m: &Module) -> Result<Vec<u8>, Fail>
+    requires well_formed { IsWellFormed m.now }
+    requires short { length (canon m.now) ≤ 8388608 }
+{
+    let Ok(copy) = m.copy(rt.alloc()) else {
         return Err("no memory")?;
     };
-    let Ok(text) = encode(rt.alloc(), &copy) else {
-        return Err("no memory")?;
-    };
-    assert_eq!(rt; &text[..], WHOLE);
-    let Some(body) = module.body(0) else {
+    spelled(rt, &copy)
+}
+
+// How many instructions a copy of the first body of a module has.
+fn copied_count(rt: &HostRuntime, m: &Module) -> Result<usize, Fail> {
+    let Some(body) = m.body(0) else {
         return Err("no body")?;
     };
     let Ok(copy) = body.copy(rt.alloc()) else {
         return Err("no memory")?;
     };
-    assert_eq!(rt; copy.code.len(), 3);
+    Ok(copy.code.len())
+}
+
+// The canonical spelling of a copy of a module, and how many instructions a copy of its first body has.
+fn copies(rt: &HostRuntime, m: &Module) -> Result<(Vec<u8>, usize), Fail>
+    requires well_formed { IsWellFormed m.now }
+    requires short { length (canon m.now) ≤ 8388608 }
+{
+    let count = copied_count(rt, m)?;
+    let text = copied_text(rt, m)?;
+    Ok((text, count))
+}
+
+// The same of the module that the bytes spell.
+fn copies_of(rt: &HostRuntime, bytes: &[u8]) -> Result<(Vec<u8>, usize), Fail>
+    requires { length bytes.now ≤ 8388608 }
+{
+    let module = decoded(rt, bytes)?;
+    copies(rt, &module)
+}
+
+#[test]
+fn copies_a_module_and_a_body(rt: HostRuntime) -> Result<(), Fail> {
+    let (text, count) = copies_of(&rt, WHOLE)?;
+    assert_eq!(rt; text.as_slice(), WHOLE);
+    assert_eq!(rt; count, 3);
     Ok(())
 }
 
 // Whether the body of the first function of a module is valid.
+fn first_is_valid(rt: &HostRuntime, m: &Module) -> Result<bool, Fail>
+    requires well_formed { IsWellFormed m.now }
+    requires entries { HasAtMost 0x7FFF_FFFF m.now }
+{
+    if !has_few_results(m) {
+        return Err("a type of two results")?;
+    }
+    let Ok(valid) = check_body(rt.alloc(), m, 0) else {
+        return Err("no memory")?;
+    };
+    Ok(valid)
+}
+
+// The same of the module that the bytes spell.
 fn first_body_is_valid(rt: &HostRuntime, bytes: &[u8]) -> Result<bool, Fail>
     requires { length bytes.now ≤ 8388608 }
 {
     let module = decoded(rt, bytes)?;
-    if !has_few_results(&module) {
-        return Err("a type of two results")?;
-    }
-    let Ok(valid) = check_body(rt.alloc(), &module, 0) else {
-        return Err("no memory")?;
-    };
-    Ok(valid)
+    first_is_valid(rt, &module)
 }
 
 #[test]
