@@ -1,6 +1,5 @@
 -- A query about a kept set, or about a slice, has an answer: it is refused, or there are such a set and such a slice.
 use Rattle.std.proofs.Common.{◌≡◌, ◌≤◌, ℕ, List, length, Option, Some, None, refl}
-use Rattle.std.specs.Prelude.{option_and_then}
 use Rattle.report_text.specs.declared.refusal.Refusal.TheVariants as refusal
 use Rattle.report_text.specs.declared.refusal.QueryRefusal.{QueryRefusal}
 use Rattle.report_text.specs.KeptTexts.{kept_lines}
@@ -10,14 +9,13 @@ use Rattle.wasm_types.specs.Code.{code_of, count}
 use Rattle.wasm_types.specs.Subset.{IsSealed}
 use Rattle.wasm_types.specs.WellFormed.{ProperName}
 use Rattle.flow_domain.specs.Sliced.{func_count, UsesAt, no_calls, sites_at, watched_once}
-use Rattle.slice_whole.specs.declared.slicing.SliceRefusal.{SliceRefusal}
 use Rattle.slice_whole.specs.Slices.{why_not}
 use Rattle.slice_whole.proofs.SomeSets.{some_kept}
 use Rattle.slice_whole.proofs.SomeSliced.{some_sliced}
 use Rattle.wassail_top.specs.Answers.{IsKeptAs, IsSlicedAs, bytes_alone, name_of, slice_answer}
 use Rattle.wassail_top.specs.Orders.{most_name_bytes}
 use Rattle.wassail_top.specs.Queries.{or_else, why_no_slice, why_not_built, why_not_kept, why_not_seen}
-use Rattle.wassail_top.specs.Refusals.{Answer, refused, why_no_code, why_not_sliced}
+use Rattle.wassail_top.specs.Refusals.{Answer, refused, why_no_code}
 use Rattle.wassail_top.specs.RunAnswers.{AnswersUnless}
 use Rattle.wassail_top.proofs.NotRefuted.{NotRefuted}
 use Rattle.wassail_top.proofs.NoCode.{has_body, has_type}

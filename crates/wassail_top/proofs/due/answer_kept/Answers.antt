@@ -1,4 +1,4 @@
-use Rattle.std.proofs.Common.{◌≡◌, ◌∙◌, ℕ, Bool, false, List, [], Some, None, Option, ap, ap₂, sym, subst}
+use Rattle.std.proofs.Common.{◌≡◌, ◌∙◌, ℕ, Bool, false, List, [], Some, None, Option, ap, ap₂, sym}
 use Rattle.std.specs.Prelude.{if◌then◌else◌}
 use Rattle.report_text.specs.KeptTexts.{kept_lines}
 use Rattle.report_text.specs.declared.refusal.QueryRefusal.{QueryRefusal}
@@ -15,7 +15,6 @@ use Rattle.slice_whole.specs.Slices.{calls_of}
 use Rattle.wassail_top.specs.Answers.{IsKeptAs}
 use Rattle.wassail_top.specs.Queries.{or_else, why_not_built, why_not_kept, why_not_seen}
 use Rattle.wassail_top.specs.Refusals.{Answer, why_no_code}
-use Rattle.wassail_top.specs.Reply.{reply_answer}
 use Rattle.wassail_top.proofs.NoCode.{has_code, has_type}
 use Rattle.wassail_top.proofs.Unless.{taken}
 use Rattle.wassail_top.proofs.due.answer_kept.Goals as goal
