@@ -1,5 +1,5 @@
 //! Tests of the public calls of lower layers that the program doesn't make, each once on its happy path. They stand in a crate of their own, since a crate with
-//! tests is proved twice. The rows of the whole program are tests of `wassail_top`, and reach the other calls.
+//! tests is proved twice. The rows of the whole program are in `program_tests`, and reach the other calls.
 #![tactic(auto)]
 
 #[cfg(test)]

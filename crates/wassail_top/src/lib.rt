@@ -11,6 +11,3 @@ mod words;
 pub use status::Status;
 pub use top::{law_one_answer, law_some_answer, wassail};
 pub use words::{Command, Question, WordsEnd, parse_words};
-
-#[cfg(test)]
-mod tests;
