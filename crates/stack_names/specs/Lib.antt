@@ -5,3 +5,4 @@ pub mod Parts
 pub mod Left
 pub mod Found
 pub mod Distinct
+pub mod Ends
