@@ -1,0 +1,16 @@
+pub mod Members
+pub mod DeedLemmas
+pub mod WalkLemmas
+pub mod Calling
+pub mod Spreading
+pub mod HostLemmas
+pub mod GraphLemmas
+pub mod Listing
+pub mod ClassLemmas
+pub mod ActLemmas
+pub mod EdgeLemmas
+pub mod ReaderLemmas
+pub mod BuildLemmas
+pub mod FewLemmas
+pub mod OrderLemmas
+pub mod ListLemmas

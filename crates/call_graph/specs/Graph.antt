@@ -1,0 +1,42 @@
+-- What the graph of a module's calls tells, and which is the graph of a module.
+use Rattle.std.specs.Prelude.{◌≡◌, ◌↔◌, ℕ, ◌+◌, ◌<◌, ◌⊎◌, Some, length, slice_get}
+use Rattle.std.specs.List.{Contains}
+use Rattle.wasm_types.specs.declared.module.Module.{Module}
+use Rattle.wasm_types.specs.declared.place.Loc.{Loc}
+use Rattle.wasm_types.specs.Hosts.{IsFunction}
+use Rattle.wasm_types.specs.Spaces.{func_types}
+use Rattle.flow_domain.specs.Reach.{CallsFunc, MayWrite, Reached}
+use Rattle.flow_domain.specs.Touch.{MayTouch}
+use Rattle.worklist.specs.Lists.{Has}
+use Rattle.call_graph.specs.declared.pairs.Pairs.{Pairs}
+use Rattle.call_graph.specs.declared.calls.CallGraph.{CallGraph}
+use Rattle.call_graph.specs.Edges.{functions}
+use Rattle.call_graph.specs.Labels.{label_of}
+use Rattle.call_graph.specs.Pairs.{HasPair}
+use Rattle.call_graph.specs.Tells.{TellsTargets}
+
+-- a function leads to another, or to the class of the other
+abbrev pub TellsCall : CallGraph → ℕ → ℕ → Type 0
+TellsCall g f h =
+    HasPair g.calls f h ⊎ ((c : ℕ) × ((slice_get g.classes.by_func.items h ≡ Some (Some c)) × HasPair g.calls f (functions g.classes + c)))
+
+-- the lists of callers have a function among those of another: by number, or through the class of the other
+abbrev pub TellsCaller : CallGraph → ℕ → ℕ → Type 0
+TellsCaller g h f = (f < functions g.classes) × (Has g.callers.next.items h f
+    ⊎ ((c : ℕ) × ((slice_get g.classes.by_func.items h ≡ Some (Some c)) × Has g.callers.next.items (functions g.classes + c) f)))
+
+-- a function has the label of a location
+abbrev pub TellsLoc : Pairs → ℕ → Loc → Type 0
+TellsLoc pairs f x = (o : ℕ) × ((label_of x ≡ Some o) × HasPair pairs f o)
+
+-- It tells just what the functions of the module call, reach, touch and write. It has the functions of each class, and each function in its order.
+pub record IsCallGraph (m : Module) (g : CallGraph) : Type 0 where
+  pub count : functions g.classes ≡ length (func_types m)
+  pub targets : TellsTargets m g.classes
+  pub calls : (f h : ℕ) → IsFunction m h → TellsCall g f h ↔ CallsFunc m f h
+  pub callers : (h f : ℕ) → IsFunction m h → TellsCaller g h f ↔ CallsFunc m f h
+  pub reached : (f h : ℕ) → IsFunction m f → IsFunction m h → HasPair g.reached f h ↔ Reached m f h
+  pub touches : (f : ℕ) (x : Loc) → TellsLoc g.touches f x ↔ MayTouch m f x
+  pub writes : (f : ℕ) (x : Loc) → TellsLoc g.writes f x ↔ MayWrite m f x
+  pub members : (c f : ℕ) → Has g.members.items c f ↔ (slice_get g.classes.by_func.items f ≡ Some (Some c))
+  pub order : (f : ℕ) → Contains g.order.items f ↔ IsFunction m f

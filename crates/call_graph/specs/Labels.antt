@@ -1,0 +1,43 @@
+-- Locations as labels, and where they begin.
+use Rattle.std.specs.Prelude.{ℕ, ◌+◌, Option, Some, None}
+use Rattle.std.specs.Option.{option_map}
+use Rattle.wasm_types.specs.declared.place.Loc.{Loc}
+use Rattle.wasm_types.specs.declared.place.Loc.TheVariants as loc
+use Rattle.worklist.specs.declared.labels.Root.{Root}
+use Rattle.call_graph.specs.declared.deeds.Deed.{Deed}
+use Rattle.call_graph.specs.declared.deeds.Deed.TheVariants.{Touches, Writes}
+use Rattle.call_graph.specs.declared.acts.Act.{Act}
+
+-- the number of a location: none of a local, and 0 of no location
+abbrev pub label_of : Loc → Option ℕ
+label_of (loc.Local k) = None
+label_of loc.Mem = Some 1
+label_of loc.Size = Some 2
+label_of loc.Host = Some 3
+label_of (loc.Global k) = Some (k + 4)
+
+-- what makes a node wait
+abbrev pub wait_at : ℕ → Root
+wait_at x = record { label = 0; node = x }
+
+-- a node's own number
+abbrev pub own_at : ℕ → Root
+own_at x = record { label = x; node = x }
+
+abbrev pub root_at : ℕ → Option ℕ → Option Root
+root_at f label = option_map (λ (o : ℕ). record { label = o; node = f }) label
+
+abbrev pub touch_by : ℕ → Deed → Option Root
+touch_by f (Touches x) = root_at f (label_of x)
+touch_by f _ = None
+
+abbrev pub write_by : ℕ → Deed → Option Root
+write_by f (Writes x) = root_at f (label_of x)
+write_by f _ = None
+
+-- where a location begins that is touched, and one that is written
+abbrev pub touch_root : Act → Option Root
+touch_root a = touch_by a.func a.deed
+
+abbrev pub write_root : Act → Option Root
+write_root a = write_by a.func a.deed

@@ -1,0 +1,13 @@
+pub mod Below
+pub mod Deeds
+pub mod Lists
+pub mod Shapes
+pub mod Hosts
+pub mod Classes
+pub mod Tells
+pub mod Pairs
+pub mod Edges
+pub mod Labels
+pub mod Orders
+pub mod Graph
+pub mod Built

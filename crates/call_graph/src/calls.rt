@@ -1,0 +1,245 @@
+//! The graph of a module's calls, and what it tells.
+
+ghost use Rattle.std.specs.Prelude.{◌≡◌, ◌^◌, ◌<◌, ◌≤◌, ◌↔◌, ℕ, IfOk, IsTrue, length, slice_get};
+ghost use Rattle.std.specs.List.{All, Contains};
+ghost use Rattle.wasm_types.specs.declared.module.Module.{Module};
+ghost use Rattle.wasm_types.specs.Spaces.{func_types, globals_of};
+ghost use Rattle.worklist.specs.declared.labels.Root.{Root};
+ghost use Rattle.worklist.specs.Lists.{Has};
+ghost use Rattle.worklist.specs.Reached.{Reached};
+ghost use Rattle.worklist.specs.Roots.{IsRootOf};
+ghost use Rattle.call_graph.specs.declared.acts.Act.{Act};
+ghost use Rattle.call_graph.specs.declared.edges.Edge.{Edge};
+ghost use Rattle.call_graph.specs.Built.{IsGraphBy};
+ghost use Rattle.call_graph.specs.Edges.{class_in};
+ghost use Rattle.call_graph.specs.Graph.{IsCallGraph, TellsCaller};
+ghost use Rattle.call_graph.specs.Pairs.{HasPair};
+
+use crate::acts::{Act, acts_of};
+use crate::classes::Classes;
+use crate::edges::{Edge, callers, count_nodes, edges_of, members_of};
+use crate::labels::{columns, label, own, touches, writes};
+use crate::order::{callees_first, order_of};
+use crate::pairs::Pairs;
+use body_check::Spaces;
+use std::alloc::Global;
+use wasm_types::{Loc, Module, NoMemory, ValidModule};
+use worklist::{ListGraph, Root};
+
+/// What the functions of a module call, reach, touch and write (docs/ANALYSES.md, "What functions write").
+#[derive(Drop)]
+pub struct CallGraph {
+    classes: Classes,
+    calls: Pairs,
+    /// For each node the nodes that lead to it.
+    callers: ListGraph,
+    reached: Pairs,
+    touches: Pairs,
+    writes: Pairs,
+    /// For each class its functions.
+    members: Vec<Vec<usize>>,
+    order: Vec<usize>,
+}
+
+/// For each of the first nodes, so many of them, the labels of the roots that it leads to.
+fn spread(
+    alloc: Global,
+    count: usize,
+    callers: &ListGraph,
+    roots: &[Root],
+) -> Result<Pairs, NoMemory>
+    requires count { count ≤ length callers.now.next.items }
+    requires nodes { All (λ (root : Root). root.node < length callers.now.next.items) roots.now }
+    ensures { IfOk result (λ pairs. (x o : ℕ) → HasPair pairs x o ↔ ((x < count) × Reached (IsRootOf roots.now o) (Has callers.now.next.items) x)) }
+{
+    let columns = columns(roots)?;
+    let pairs = Pairs::of_labels(alloc, count, columns, callers, roots)?;
+    Ok(pairs)
+}
+
+/// All nodes, each behind those that lead to it where no cycle leads back.
+fn order_by(alloc: Global, nodes: usize, edges: &[Edge]) -> Result<Vec<usize>, NoMemory>
+    requires { All (λ (e : Edge). (e.from < nodes) × (e.to < nodes)) edges.now }
+    ensures { IfOk result (λ order. (x : ℕ) → Contains order.items x ↔ (x < nodes)) }
+{
+    let callers = callers(alloc, nodes, edges)?;
+    let order = order_of(alloc, callers)?;
+    Ok(order)
+}
+
+/// The graph of a module's calls, by its classes and by what its functions do.
+fn graph_by(alloc: Global, classes: Classes, acts: &[Act]) -> Result<CallGraph, NoMemory>
+    requires { All (λ (act : Act). act.func < length classes.by_func.items) acts.now }
+    ensures { IfOk result (λ graph. IsGraphBy classes acts.now graph) }
+{
+    let count = classes.by_func.len();
+    let nodes = count_nodes(&classes);
+    let edges = edges_of(alloc, &classes, acts)?;
+    let calls = Pairs::of_edges(alloc, count, nodes, &edges)?;
+    let order = order_by(alloc, nodes, &edges)?;
+    let callers = callers(alloc, nodes, &edges)?;
+    let numbered = own(alloc, &order)?;
+    let reached = spread(alloc, count, &callers, &numbered)?;
+    let touched = touches(alloc, &order, acts)?;
+    let touches = spread(alloc, count, &callers, &touched)?;
+    let written = writes(alloc, &order, acts)?;
+    let writes = spread(alloc, count, &callers, &written)?;
+    let members = members_of(alloc, &classes)?;
+    let functions = callees_first(alloc, count, &order)?;
+    Ok(CallGraph {
+        classes,
+        calls,
+        callers,
+        reached,
+        touches,
+        writes,
+        members,
+        order: functions,
+    })
+}
+
+/// The graph of the calls of a module that has not too many functions and globals.
+fn graph_of(alloc: Global, m: &Module) -> Result<CallGraph, NoMemory>
+    requires funcs { length (func_types m.now) < 2 ^ 32 }
+    requires globals { length (globals_of m.now) < 2 ^ 32 }
+    ensures { IfOk result (λ graph. IsCallGraph m.now graph) }
+{
+    let spaces = Spaces::new(alloc, m)?;
+    let classes = Classes::of(alloc, m, &spaces)?;
+    let acts = acts_of(alloc, m, &spaces)?;
+    let graph = graph_by(alloc, classes, &acts)?;
+    Ok(graph)
+}
+
+/// The graph of a module's calls. It fails only where an allocation is refused.
+pub fn graph(alloc: Global, m: &ValidModule) -> Result<CallGraph, NoMemory>
+    ensures { IfOk result (λ graph. IsCallGraph m.now graph) }
+{
+    let graph = graph_of(alloc, m.module())?;
+    Ok(graph)
+}
+
+impl CallGraph {
+    ghost use Rattle.flow_domain.specs.Reach.{CallsFunc, MayWrite, Reached as Reaches};
+    ghost use Rattle.flow_domain.specs.Rows.{Target};
+    ghost use Rattle.flow_domain.specs.Touch.{MayTouch};
+    ghost use Rattle.wasm_types.specs.Hosts.{IsFunction};
+    ghost use Rattle.worklist.specs.Gains.{Gains};
+
+    /// The class of a function.
+    fn class_of(&self, func: usize) -> Option<usize>
+        ensures { result ≡ class_in (slice_get self.now.classes.by_func.items func) }
+    {
+        *self.classes.by_func.get(func)?
+    }
+
+    /// The class of a type number.
+    fn class_by(&self, kind: u32) -> Option<usize>
+        ensures { result ≡ class_in (slice_get self.now.classes.by_type.items kind) }
+    {
+        *self.classes.by_type.get(kind as usize)?
+    }
+
+    /// Whether an instruction at a live position of a function calls another, by its number or through the table. No function is called that isn't there.
+    pub fn calls(&self, func: u32, other: u32) -> bool
+        ensures { (m : Module) → IsCallGraph m self.now → IsFunction m other → (IsTrue result ↔ CallsFunc m func other) }
+    {
+        if self.calls.has(func as usize, other as usize) {
+            return true;
+        }
+        match self.class_of(other as usize) {
+            Some(class) => self
+                .calls
+                .has(func as usize, self.classes.by_func.len() + class),
+            None => false,
+        }
+    }
+
+    /// Whether calls, one after another, lead from a function to another: to itself, too.
+    pub fn reached(&self, func: u32, other: u32) -> bool
+        ensures { (m : Module) → IsCallGraph m self.now → IsFunction m func → IsFunction m other → (IsTrue result ↔ Reaches m func other) }
+    {
+        self.reached.has(func as usize, other as usize)
+    }
+
+    /// Whether a function that is reached reads, checks or writes a location. No local is touched so.
+    pub fn touches(&self, func: u32, loc: Loc) -> bool
+        ensures { (m : Module) → IsCallGraph m self.now → (IsTrue result ↔ MayTouch m func loc) }
+    {
+        match label(loc) {
+            Some(label) => self.touches.has(func as usize, label),
+            None => false,
+        }
+    }
+
+    /// Whether a function that is reached writes a location. No local is written so.
+    pub fn writes(&self, func: u32, loc: Loc) -> bool
+        ensures { (m : Module) → IsCallGraph m self.now → (IsTrue result ↔ MayWrite m func loc) }
+    {
+        match label(loc) {
+            Some(label) => self.writes.has(func as usize, label),
+            None => false,
+        }
+    }
+
+    /// Whether a call through the table by a type number may find a function.
+    pub fn targets(&self, kind: u32, other: u32) -> bool
+        ensures { (m : Module) → IsCallGraph m self.now → (IsTrue result ↔ Target m kind other) }
+    {
+        match self.class_by(kind) {
+            Some(class) => match self.class_of(other as usize) {
+                Some(own) => own == class,
+                None => false,
+            },
+            None => false,
+        }
+    }
+
+    /// The functions that a call through the table by a type number may find.
+    pub fn targets_of(&self, kind: u32) -> &[usize]
+        ensures { (m : Module) → IsCallGraph m self.now → (f : ℕ) → Contains result.now f ↔ Target m kind f }
+    {
+        let Some(class) = self.class_by(kind) else {
+            return &[];
+        };
+        match self.members.get(class) {
+            Some(members) => members.as_slice(),
+            None => &[],
+        }
+    }
+
+    /// The functions, by their numbers, each behind those that it calls where no calls lead back; each stands there.
+    pub fn order(&self) -> &[usize]
+        ensures { (m : Module) → IsCallGraph m self.now → (f : ℕ) → Contains result.now f ↔ IsFunction m f }
+    {
+        &self.order
+    }
+
+    /// Puts the functions that lead to a node at the end.
+    fn push_functions(&self, node: usize, funcs: &mut Vec<usize>) -> Result<(), NoMemory>
+        ensures { IfOk result (λ _. Gains (λ f. (f < length self.now.classes.by_func.items) × Has self.now.callers.next.items node f)
+            funcs.old.items funcs.new.items) }
+    {
+        let Some(nodes) = self.callers.next.get(node) else {
+            return Ok(());
+        };
+        for other in nodes {
+            if *other < self.classes.by_func.len() {
+                funcs.push(*other).map_err(|_| NoMemory)?;
+            }
+        }
+        Ok(())
+    }
+
+    /// Puts the functions that call another, by its number or through the table, at the end, in any order and however often. It fails only where an
+    /// allocation is refused.
+    pub fn push_callers(&self, func: usize, funcs: &mut Vec<usize>) -> Result<(), NoMemory>
+        ensures { IfOk result (λ _. Gains (TellsCaller self.now func) funcs.old.items funcs.new.items) }
+    {
+        self.push_functions(func, funcs)?;
+        if let Some(class) = self.class_of(func) {
+            self.push_functions(self.classes.by_func.len() + class, funcs)?;
+        }
+        Ok(())
+    }
+}
