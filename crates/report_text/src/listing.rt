@@ -11,9 +11,7 @@ ghost use Rattle.report_text.specs.ListingOf.{told_by, maker_of};
 ghost use Rattle.report_text.specs.Drafts.{written};
 
 use crate::draft::Draft;
-use crate::instruction::{
-    push_block, push_instruction, push_number, push_number_after, push_text,
-};
+use crate::instruction::{push_block, push_instruction, push_number, push_number_after, push_text};
 use crate::place::{MOST_DIGITS, place_beginning, place_indent};
 use stack_names::{Names, Place};
 use std::alloc::{AllocError, Global};
