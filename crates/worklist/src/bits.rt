@@ -37,7 +37,7 @@ impl BitRows {
     }
 
     /// It does nothing: what its clause says is known of any table.
-    pub(crate) fn bound(&self)
+    pub fn bound(&self)
         ensures { sum self.now.bits.items ≤ length self.now.bits.items * 2 ^ 64 }
     {
         words_bound(&self.bits);
