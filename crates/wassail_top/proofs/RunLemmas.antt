@@ -1,5 +1,6 @@
 -- What it says that a run isn't refused, and what a run answers.
 use Rattle.std.proofs.Common.{◌≡◌, ℕ, ◌≤◌, ℤ, Bool, true, false, List, Option, Some, None, refl, sym, ap, ◌∙◌, subst, arith, nat_lt}
+use Rattle.std.specs.Option.{option_or}
 use Rattle.std.specs.Prelude.{if◌then◌else◌}
 use Rattle.std.proofs.lemmas.Bool.Decides.{nat_tests}
 use Rattle.report_text.specs.declared.refusal.Refusal.TheVariants as refusal
@@ -18,7 +19,7 @@ use Rattle.module_run.specs.Values.{values_for}
 use Rattle.module_run.proofs.ListedValues.{values_typed}
 use Rattle.module_run.proofs.OneRun.{one_run}
 use Rattle.module_run.proofs.SomeRun.{some_run}
-use Rattle.wassail_top.specs.Queries.{or_else, params_in, params_of, why_no_run, why_no_values, why_not_called, why_too_large}
+use Rattle.wassail_top.specs.Queries.{params_in, params_of, why_no_run, why_no_values, why_not_called, why_too_large}
 use Rattle.wassail_top.specs.Refusals.{Answer, refused, why_no_code}
 use Rattle.wassail_top.specs.RunAnswers.{AnswersUnless, IsRunAs, IsStatusOfRun, run_answer}
 use Rattle.wassail_top.proofs.NotRefuted.{NotRefuted}
@@ -27,7 +28,7 @@ use Rattle.wassail_top.proofs.NoCode.{has_type}
 -- ---- causes
 
 -- neither of two causes holds
-pub or_else_none : (p q : Option QueryRefusal) → or_else p q ≡ None → (p ≡ None) × (q ≡ None)
+pub or_else_none : (p q : Option QueryRefusal) → option_or p q ≡ None → (p ≡ None) × (q ≡ None)
 or_else_none None q e = (refl, e)
 or_else_none (Some why) q e = absurd cc
 
@@ -82,17 +83,17 @@ of_why m f i budget args replies None here never = here refl never
 of_why m f i budget args replies (Some why) here never = never (refused (refusal.Query why), refl)
 
 pub some_run_answer : (m : Module) (f i budget : ℕ) (args : List ℤ) (replies : List Reply) → IsSealed m
-    → NotRefuted ((answer : Answer) × AnswersUnless (or_else (why_no_code m f) (why_no_run m f args)) (IsRunAs m f i budget args replies) answer)
+    → NotRefuted ((answer : Answer) × AnswersUnless (option_or (why_no_code m f) (why_no_run m f args)) (IsRunAs m f i budget args replies) answer)
 some_run_answer m f i budget args replies sealed =
     of_why m f i budget args replies _ (λ none.
     let both = or_else_none (why_no_code m f) (why_no_run m f args) none in some_run_here m f i budget args replies sealed both.0 both.1)
 
 pub some_trace_answer : (m : Module) (f i budget : ℕ) (args : List ℤ) (replies : List Reply) (unseen : Option QueryRefusal) → IsSealed m
     → NotRefuted ((answer : Answer)
-    × AnswersUnless (or_else (why_no_code m f) (or_else unseen (why_no_run m f args))) (IsRunAs m f i budget args replies) answer)
+    × AnswersUnless (option_or (why_no_code m f) (option_or unseen (why_no_run m f args))) (IsRunAs m f i budget args replies) answer)
 some_trace_answer m f i budget args replies unseen sealed =
     of_why m f i budget args replies _ (λ none.
-    let both = or_else_none (why_no_code m f) (or_else unseen (why_no_run m f args)) none in
+    let both = or_else_none (why_no_code m f) (option_or unseen (why_no_run m f args)) none in
     let others = or_else_none unseen (why_no_run m f args) both.1 in
     some_run_here m f i budget args replies sealed both.0 others.1)
 

@@ -1,8 +1,9 @@
 -- The names of a body tell which of its positions are dead.
 use Rattle.std.proofs.Common.{◌≡◌, ◌<◌, ◌≤◌, ◌∙◌, ℕ, Bool, true, false, Option, Some, None, List, length, refl, sym, ap, arith, slice_get, nat_lt}
+use Rattle.slice_whole.specs.Slices.{count_in}
 use Rattle.std.specs.Prelude.{if◌then◌else◌}
 use Rattle.std.proofs.lemmas.Bool.Decides.{nat_tests}
-use Rattle.std.specs.Option.{option_map}
+use Rattle.std.specs.Option.{option_map, option_or}
 use Rattle.std.proofs.lemmas.Option.{slice_get-map}
 use Rattle.report_text.specs.declared.refusal.QueryRefusal.{QueryRefusal}
 use Rattle.report_text.specs.declared.refusal.QueryRefusal.TheVariants as of_query
@@ -18,7 +19,7 @@ use Rattle.wasm_types.specs.Sites.{Site}
 use Rattle.wasm_types.specs.Spaces.{body_of, run_types}
 use Rattle.stack_names.specs.Listed.{Listed}
 use Rattle.stack_names.specs.Named.{AreNames, Named, is_listed, is_live_in, listed, listed_all, sites_in}
-use Rattle.wassail_top.specs.Queries.{count_in, or_else, positions_of, why_dead, why_no_position, why_no_site, why_not_seen}
+use Rattle.wassail_top.specs.Queries.{positions_of, why_dead, why_no_position, why_no_site, why_not_seen}
 
 -- why a position is refused that is live or not
 abbrev pub unless_live : ℕ → Bool → Option QueryRefusal
@@ -46,17 +47,17 @@ dead_by_names m f i n b h own =
 
 -- ---- positions
 
-past : (i n : ℕ) (later : Option QueryRefusal) → n ≤ i → or_else (why_no_position n i) later ≡ Some (of_query.NoInstruction i n)
+past : (i n : ℕ) (later : Option QueryRefusal) → n ≤ i → option_or (why_no_position n i) later ≡ Some (of_query.NoInstruction i n)
 past i n later le = go (nat_lt i n) refl
   where
-    go : (q : Bool) → nat_lt i n ≡ q → or_else (if q then None else Some (of_query.NoInstruction i n)) later ≡ Some (of_query.NoInstruction i n)
+    go : (q : Bool) → nat_lt i n ≡ q → option_or (if q then None else Some (of_query.NoInstruction i n)) later ≡ Some (of_query.NoInstruction i n)
     go true is = absurd (grind (arith, nat_tests, is, le))
     go false is = refl
 
-within : (i n : ℕ) (later : Option QueryRefusal) → i < n → or_else (why_no_position n i) later ≡ later
+within : (i n : ℕ) (later : Option QueryRefusal) → i < n → option_or (why_no_position n i) later ≡ later
 within i n later lt = go (nat_lt i n) refl
   where
-    go : (q : Bool) → nat_lt i n ≡ q → or_else (if q then None else Some (of_query.NoInstruction i n)) later ≡ later
+    go : (q : Bool) → nat_lt i n ≡ q → option_or (if q then None else Some (of_query.NoInstruction i n)) later ≡ later
     go true is = refl
     go false is = absurd (grind (arith, nat_tests, is, lt))
 
@@ -68,7 +69,7 @@ pub past_end : (m : Module) (f i n : ℕ) (b : Body) → body_of m f ≡ Some b 
     → Some (of_query.NoInstruction i n) ≡ why_not_seen m f i
 past_end m f i n b own is le =
     let dead = why_dead m i (func_of m f) in
-    sym (ap (λ k. or_else (why_no_position k i) dead) (positions_are m f n b own is) ∙ past i n dead le)
+    sym (ap (λ k. option_or (why_no_position k i) dead) (positions_are m f n b own is) ∙ past i n dead le)
 
 -- before it, the names tell whether a position is dead
 pub seen_by_names : (m : Module) (f i n : ℕ) (names : Named) (b : Body) (live : Bool) → AreNames m f unwatched names → body_of m f ≡ Some b
@@ -76,4 +77,4 @@ pub seen_by_names : (m : Module) (f i n : ℕ) (names : Named) (b : Body) (live 
 seen_by_names m f i n names b live h own is lt told =
     let dead = why_dead m i (func_of m f) in
     ap (unless_live i) told
-    ∙ sym (ap (λ k. or_else (why_no_position k i) dead) (positions_are m f n b own is) ∙ within i n dead lt ∙ dead_by_names m f i names b h own)
+    ∙ sym (ap (λ k. option_or (why_no_position k i) dead) (positions_are m f n b own is) ∙ within i n dead lt ∙ dead_by_names m f i names b h own)

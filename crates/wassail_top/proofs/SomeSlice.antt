@@ -1,5 +1,6 @@
 -- A query about a kept set, or about a slice, has an answer: it is refused, or there are such a set and such a slice.
 use Rattle.std.proofs.Common.{◌≡◌, ◌≤◌, ℕ, List, length, Option, Some, None, refl}
+use Rattle.std.specs.Option.{option_or}
 use Rattle.report_text.specs.declared.refusal.Refusal.TheVariants as refusal
 use Rattle.report_text.specs.declared.refusal.QueryRefusal.{QueryRefusal}
 use Rattle.report_text.specs.KeptTexts.{kept_lines}
@@ -14,7 +15,7 @@ use Rattle.slice_whole.proofs.SomeSets.{some_kept}
 use Rattle.slice_whole.proofs.SomeSliced.{some_sliced}
 use Rattle.wassail_top.specs.Answers.{IsKeptAs, IsSlicedAs, bytes_alone, name_of, slice_answer}
 use Rattle.wassail_top.specs.Orders.{most_name_bytes}
-use Rattle.wassail_top.specs.Queries.{or_else, why_no_slice, why_not_built, why_not_kept, why_not_seen}
+use Rattle.wassail_top.specs.Queries.{why_no_slice, why_not_built, why_not_kept, why_not_seen}
 use Rattle.wassail_top.specs.Refusals.{Answer, refused, why_no_code}
 use Rattle.wassail_top.specs.RunAnswers.{AnswersUnless}
 use Rattle.wassail_top.proofs.NotRefuted.{NotRefuted}
@@ -40,7 +41,7 @@ kept_here m f i seal code never =
 pub some_kept_answer : (m : Module) (f i : ℕ) → IsSealed m → NotRefuted ((answer : Answer) × AnswersUnless (why_not_kept m f i) (IsKeptAs m f i) answer)
 some_kept_answer m f i seal =
     some_unless (why_not_kept m f i) (IsKeptAs m f i)
-    (λ none. kept_here m f i seal (or_else_none (why_no_code m f) (or_else (why_not_seen m f i) (why_not_built m f)) none).0)
+    (λ none. kept_here m f i seal (or_else_none (why_no_code m f) (option_or (why_not_seen m f i) (why_not_built m f)) none).0)
 
 slice_here : (m : Module) (f i : ℕ) (name : List ℕ) → IsSealed m → ProperName (name_of name) → length name ≤ most_name_bytes → why_not m f i name ≡ None
     → NotRefuted ((answer : Answer) × IsSlicedAs m f i name answer)

@@ -1,35 +1,25 @@
--- Why a query about a function, or about a position of it, is refused (docs/COMMANDS.md, "Refusals").
+-- Why a query about a function, or about a position of it, is refused (docs/COMMANDS.md, "Refusals"). Of two causes the first counts (`option_or`).
 use Rattle.std.specs.Prelude.{ℕ, ℤ, List, [], Option, Some, None, nat_lt, if◌then◌else◌, option_and_then, slice_get}
+use Rattle.std.specs.Option.{option_or}
 use Rattle.report_text.specs.declared.refusal.QueryRefusal.{QueryRefusal}
 use Rattle.report_text.specs.declared.refusal.QueryRefusal.TheVariants as of_query
-use Rattle.wasm_types.specs.declared.module.Body.{Body}
 use Rattle.wasm_types.specs.declared.module.FuncType.{FuncType}
 use Rattle.wasm_types.specs.declared.module.Module.{Module}
 use Rattle.wasm_types.specs.declared.module.ValType.{ValType}
 use Rattle.wasm_types.specs.declared.module.Value.{Value}
 use Rattle.wasm_types.specs.Actions.{callees}
-use Rattle.wasm_types.specs.Code.{code_of, count}
 use Rattle.wasm_types.specs.Funcs.{Func, func_of, text}
 use Rattle.wasm_types.specs.Sites.{Site, body_sites}
 use Rattle.wasm_types.specs.Spaces.{body_of, type_of_func, mems_of}
 use Rattle.typed_runs.specs.Start.{least}
 use Rattle.module_run.specs.Runs.{most_run_pages}
 use Rattle.module_run.specs.Values.{values_for}
-use Rattle.slice_whole.specs.Slices.{calls_of, why_not}
+use Rattle.slice_whole.specs.Slices.{calls_of, count_in, why_not}
 use Rattle.wassail_top.specs.Refusals.{why_no_code, why_not_sliced}
-
--- the first of two causes
-abbrev pub or_else : Option QueryRefusal → Option QueryRefusal → Option QueryRefusal
-or_else (Some why) later = Some why
-or_else None later = later
 
 -- ---- positions
 
 -- the number of positions of a function, 0 where it has no body
-abbrev pub count_in : Option Body → ℕ
-count_in None = 0
-count_in (Some b) = count (code_of b.code)
-
 abbrev pub positions_of : Module → ℕ → ℕ
 positions_of m f = count_in (body_of m f)
 
@@ -48,7 +38,7 @@ why_dead m i (Some F) = why_no_site i (slice_get (body_sites (callees m) F.resul
 
 -- nothing is seen at position i of function f
 abbrev pub why_not_seen : Module → ℕ → ℕ → Option QueryRefusal
-why_not_seen m f i = or_else (why_no_position (positions_of m f) i) (why_dead m i (func_of m f))
+why_not_seen m f i = option_or (why_no_position (positions_of m f) i) (why_dead m i (func_of m f))
 
 -- ---- arguments and pages
 
@@ -74,17 +64,17 @@ why_too_large min = if nat_lt most_run_pages min then Some (of_query.TooManyPage
 
 -- a function with code isn't run
 abbrev pub why_no_run : Module → ℕ → List ℤ → Option QueryRefusal
-why_no_run m f args = or_else (why_not_called m f args) (why_too_large (least (mems_of m)))
+why_no_run m f args = option_or (why_not_called m f args) (why_too_large (least (mems_of m)))
 
 -- ---- queries
 
 -- why `run` is refused
 abbrev pub why_not_run : Module → ℕ → List ℤ → Option QueryRefusal
-why_not_run m f args = or_else (why_no_code m f) (why_no_run m f args)
+why_not_run m f args = option_or (why_no_code m f) (why_no_run m f args)
 
 -- why `trace` is refused
 abbrev pub why_not_traced : Module → ℕ → ℕ → List ℤ → Option QueryRefusal
-why_not_traced m f i args = or_else (why_no_code m f) (or_else (why_not_seen m f i) (why_no_run m f args))
+why_not_traced m f i args = option_or (why_no_code m f) (option_or (why_not_seen m f i) (why_no_run m f args))
 
 -- a call stands in live code: what is called isn't followed so far
 abbrev pub why_not_built : Module → ℕ → Option QueryRefusal
@@ -92,7 +82,7 @@ why_not_built m f = if calls_of (body_of m f) then Some of_query.Unbuilt else No
 
 -- why `kept` is refused
 abbrev pub why_not_kept : Module → ℕ → ℕ → Option QueryRefusal
-why_not_kept m f i = or_else (why_no_code m f) (or_else (why_not_seen m f i) (why_not_built m f))
+why_not_kept m f i = option_or (why_no_code m f) (option_or (why_not_seen m f i) (why_not_built m f))
 
 -- why `slice` is refused
 abbrev pub why_no_slice : Module → ℕ → ℕ → List ℕ → Option QueryRefusal

@@ -1,4 +1,5 @@
 use Rattle.std.proofs.Common.{◌≡◌, ◌∙◌, ℕ, Bool, false, List, [], Some, None, Option, ap, ap₂, sym}
+use Rattle.std.specs.Option.{option_or}
 use Rattle.std.specs.Prelude.{if◌then◌else◌}
 use Rattle.report_text.specs.KeptTexts.{kept_lines}
 use Rattle.report_text.specs.declared.refusal.QueryRefusal.{QueryRefusal}
@@ -13,7 +14,7 @@ use Rattle.flow_domain.specs.KeptSets.{holds}
 use Rattle.slice_whole.specs.Calling.{calls_in}
 use Rattle.slice_whole.specs.Slices.{calls_of}
 use Rattle.wassail_top.specs.Answers.{IsKeptAs}
-use Rattle.wassail_top.specs.Queries.{or_else, why_not_built, why_not_kept, why_not_seen}
+use Rattle.wassail_top.specs.Queries.{why_not_built, why_not_kept, why_not_seen}
 use Rattle.wassail_top.specs.Refusals.{Answer, why_no_code}
 use Rattle.wassail_top.proofs.NoCode.{has_code, has_type}
 use Rattle.wassail_top.proofs.Unless.{taken}
@@ -35,8 +36,8 @@ returns c =
     let built : why_not_built m f ≡ None =
     ap (λ (o : Option Body). if calls_of o then Some of_query.Unbuilt else None) own ∙ ap (λ (q : Bool). if q then Some of_query.Unbuilt else None) silent in
     let none : why_not_kept m f c.args.at ≡ None =
-    ap (λ (w : Option QueryRefusal). or_else w (or_else (why_not_seen m f c.args.at) (why_not_built m f))) code
-    ∙ ap (λ (w : Option QueryRefusal). or_else w (why_not_built m f)) seen ∙ built in
+    ap (λ (w : Option QueryRefusal). option_or w (option_or (why_not_seen m f c.args.at) (why_not_built m f))) code
+    ∙ ap (λ (w : Option QueryRefusal). option_or w (why_not_built m f)) seen ∙ built in
     let kind = has_type m f c.requires.admitted.valid code in
     let has : HasBody m f b = ((has_code m f code).0, own_body m f b own) in
     let many : c.count.result ≡ count (code_of b.code) = c.count.ensures ∙ length-flatten (code_of b.code) in
