@@ -29,13 +29,18 @@ class Ended:
     bytes: bytes
 
 
-def companion(name, *words, program=STUB, path=None):
-    """Runs a companion. `path` is the search path of the system's commands, where it is another one."""
+# A machine with other work makes any step a long one.
+PROGRESS = re.compile(r"^\w+: .*, \d+(\.\d)? s\n", re.MULTILINE)
+
+
+def companion(name, *words, program=STUB, path=None, with_progress=False):
+    """Runs a companion. `path` is the search path of the system's commands, where it is another one. Lines of progress are left out, unless asked for."""
     variables = os.environ | {"WASSAIL_PROGRAM": str(program), "PYTHONDONTWRITEBYTECODE": "1"}
     # The stub is to start with this interpreter.
     variables["PATH"] = f"{PYTHON}{os.pathsep}{os.environ['PATH'] if path is None else path}"
     ran = subprocess.run([sys.executable, str(COMPANIONS / name), *map(str, words)], capture_output=True, env=variables, check=False)
-    return Ended(ran.returncode, ran.stdout.decode("utf-8", "replace"), ran.stderr.decode("utf-8", "replace"), ran.stdout)
+    error = ran.stderr.decode("utf-8", "replace")
+    return Ended(ran.returncode, ran.stdout.decode("utf-8", "replace"), error if with_progress else PROGRESS.sub("", error), ran.stdout)
 
 
 class InFolder(unittest.TestCase):

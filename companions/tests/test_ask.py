@@ -117,9 +117,9 @@ class Progress(InFolder):
     def test_a_step_of_more_than_a_second(self):
         slow = self.written(b"#!/bin/sh\nsleep 1.3\necho valid\n", "slow")
         slow.chmod(0o755)
-        said = companion("ask", self.written(samples.library()), "check", program=slow)
+        said = companion("ask", self.written(samples.library()), "check", program=slow, with_progress=True)
         self.assertEqual((said.status, said.output), (0, "valid\n"))
-        self.assertRegex(said.error, r"\Aask: wassail check, 1 s\nask: wassail check: done, 1\.[3-9] s\n\Z")
+        self.assertRegex(said.error, r"\Aask: wassail check, 1 s\n(ask: wassail check, \d+ s\n)*ask: wassail check: done, \d+\.\d s\n\Z")
 
 
 class Recorded(InFolder):
