@@ -1,6 +1,6 @@
 -- Ranges of bytes, and numbers in them.
 use Rattle.std.proofs.Common.{◌≡◌, ℕ, zero, suc, ◌+◌, ◌-◌, ◌*◌, ◌/◌, ◌%◌, ◌^◌, ◌<◌, ◌≤◌, List, [], ◌∷◌, ◌++◌, length, take, drop, replicate, get_or, set, All, refl, sym, ap, ap₂, ◌∙◌, arith, mod-lt}
-use Rattle.std.specs.Int.{w64, from_le_bytes, to_le_bytes, bytes_low_first}
+use Rattle.std.specs.Int.{w16, w32, w64, from_le_bytes, to_le_bytes, bytes_low_first}
 use Rattle.std.proofs.lemmas.List.{append_assoc, drop-drop, drop_more, take_at, length-take-le, length-drop, length-append, length-replicate}
 use Rattle.std.proofs.Math.Nat.{div-div-eq-div-mul, pow-suc}
 use Rattle.std.proofs.lemmas.List.Edits.{sets, sets-eq}
@@ -24,16 +24,17 @@ length_put k b [] lt = absurd (omega arith)
 length_put zero b (x ∷ xs) lt = refl
 length_put (suc k) b (x ∷ xs) lt = ap suc (length_put k b xs (omega arith))
 
+-- a write within the list, byte by byte
+pub written_sets : (at : ℕ) (these xs : List ℕ) → at + length these ≤ length xs → written at these xs ≡ sets xs at these
+written_sets at [] xs le = refl
+written_sets at (b ∷ these) xs le =
+    let e = length_put at b xs (omega arith) in
+    let n : at + 1 ≡ suc at = omega arith in
+    written_sets (at + 1) these (put 0 at b xs) (omega arith) ∙ ap₂ {A = List ℕ} {B = ℕ} (λ l k. sets l k these) (put_set at b xs (omega arith)) n
+
 -- a write within the list, as what stands before, the new bytes, and what stands after
 pub written_is : (at : ℕ) (these xs : List ℕ) → at + length these ≤ length xs → written at these xs ≡ take at xs ++ (these ++ drop (at + length these) xs)
-written_is at these xs le = go at these xs le ∙ (sets-eq these xs at le ∙ append_assoc (take at xs) these (drop (at + length these) xs))
-  where
-    go : (at : ℕ) (these xs : List ℕ) → at + length these ≤ length xs → written at these xs ≡ sets xs at these
-    go at [] xs le = refl
-    go at (b ∷ these) xs le =
-        let e = length_put at b xs (omega arith) in
-        let n : at + 1 ≡ suc at = omega arith in
-        go (at + 1) these (put 0 at b xs) (omega arith) ∙ ap₂ {A = List ℕ} {B = ℕ} (λ l k. sets l k these) (put_set at b xs (omega arith)) n
+written_is at these xs le = written_sets at these xs le ∙ (sets-eq these xs at le ∙ append_assoc (take at xs) these (drop (at + length these) xs))
 
 cell_is : (xs : List ℕ) (k : ℕ) → cell 0 xs k ≡ get_or xs k 0
 cell_is [] k = refl
@@ -91,59 +92,72 @@ still_paged {p} {xs} n at rest these h same le fit long =
 
 -- ---- numbers as std has them
 
-take_bytes_of : (j k n : ℕ) → j ≤ k → take j (bytes_of k n) ≡ bytes_of j n
-take_bytes_of zero k n le = refl
-take_bytes_of (suc j) zero n le = absurd (omega arith)
-take_bytes_of (suc j) (suc k) n le = ap (λ l. n % 256 ∷ l) (take_bytes_of j k (n / 256) (omega arith))
-
 low_first_is : (i k n : ℕ) → bytes_low_first (suc i) k n ≡ bytes_of k (n / 256 ^ suc i)
 low_first_is i zero n = refl
 low_first_is i (suc k) n =
     let e : n / 256 ^ suc i / 256 ≡ n / 256 ^ suc (suc i) = div-div-eq-div-mul n (256 ^ suc i) 256 ∙ ap (λ m. n / m) (sym (pow-suc 256 (suc i))) in
     ap (λ l. (n / 256 ^ suc i % 256) ∷ l) (low_first_is (suc i) k n ∙ sym (ap (bytes_of k) e))
 
--- the low bytes of a number, as std writes all eight
-pub low_bytes : (j n : ℕ) → j ≤ 8 → take j (to_le_bytes w64 n) ≡ bytes_of j n
-low_bytes j n le =
-    let e : to_le_bytes w64 n ≡ bytes_of 8 n = ap (λ l. n % 256 ∷ l) (low_first_is 0 7 n) in
-    ap (take j) e ∙ take_bytes_of j 8 n le
+-- the bytes of a number, as std writes all eight
+pub all_bytes : (n : ℕ) → to_le_bytes w64 n ≡ bytes_of 8 n
+all_bytes n = ap (λ l. n % 256 ∷ l) (low_first_is 0 7 n)
 
-number_padded : (xs : List ℕ) (k : ℕ) → number_from (xs ++ replicate k 0) ≡ number_from xs
-number_padded [] zero = refl
-number_padded [] (suc k) = let h = number_padded [] k in omega arith
-number_padded (x ∷ xs) k = ap (λ m. x + 256 * m) (number_padded xs k)
+-- the number that std reads in bytes
+pub two : (a b : ℕ) → from_le_bytes w16 (a ∷ b ∷ []) ≡ number_from (a ∷ b ∷ [])
+two a b = omega arith
 
-eight : (a b c d e f g h : ℕ) → from_le_bytes w64 (a ∷ b ∷ c ∷ d ∷ e ∷ f ∷ g ∷ h ∷ []) ≡ number_from (a ∷ b ∷ c ∷ d ∷ e ∷ f ∷ g ∷ h ∷ [])
+pub four : (a b c d : ℕ) → from_le_bytes w32 (a ∷ b ∷ c ∷ d ∷ []) ≡ number_from (a ∷ b ∷ c ∷ d ∷ [])
+four a b c d = omega arith
+
+pub eight : (a b c d e f g h : ℕ) → from_le_bytes w64 (a ∷ b ∷ c ∷ d ∷ e ∷ f ∷ g ∷ h ∷ []) ≡ number_from (a ∷ b ∷ c ∷ d ∷ e ∷ f ∷ g ∷ h ∷ [])
 eight a b c d e f g h = omega arith
 
--- the number that std reads in eight bytes
-pub number_of_eight : (bs : List ℕ) → length bs ≡ 8 → from_le_bytes w64 bs ≡ number_from bs
-number_of_eight (a ∷ b ∷ c ∷ d ∷ e ∷ f ∷ g ∷ h ∷ []) long = eight a b c d e f g h
-number_of_eight [] long = absurd (omega arith)
-number_of_eight (a ∷ []) long = absurd (omega arith)
-number_of_eight (a ∷ b ∷ []) long = absurd (omega arith)
-number_of_eight (a ∷ b ∷ c ∷ []) long = absurd (omega arith)
-number_of_eight (a ∷ b ∷ c ∷ d ∷ []) long = absurd (omega arith)
-number_of_eight (a ∷ b ∷ c ∷ d ∷ e ∷ []) long = absurd (omega arith)
-number_of_eight (a ∷ b ∷ c ∷ d ∷ e ∷ f ∷ []) long = absurd (omega arith)
-number_of_eight (a ∷ b ∷ c ∷ d ∷ e ∷ f ∷ g ∷ []) long = absurd (omega arith)
-number_of_eight (a ∷ b ∷ c ∷ d ∷ e ∷ f ∷ g ∷ h ∷ i ∷ more) long = absurd (omega arith)
+-- ---- a few bytes one by one
 
--- so many bytes, with zeros after them
-pub padded_number : (j : ℕ) (bs xs : List ℕ) → j ≤ 8 → length xs ≡ j → bs ≡ xs ++ drop j (replicate 8 0) → from_le_bytes w64 bs ≡ number_from xs
-padded_number j bs xs le long same =
-    let rest : drop j (replicate 8 0) ≡ replicate (8 - j) 0 = zeros_left j 8 le in
-    let e : bs ≡ xs ++ replicate (8 - j) 0 = same ∙ ap (λ l. xs ++ l) rest in
-    let n : length bs ≡ 8 = ap length e ∙ (length-append xs (replicate (8 - j) 0) ∙ total j xs le long) in
-    number_of_eight bs n ∙ (ap number_from e ∙ number_padded xs (8 - j))
-  where
-    total : (j : ℕ) (xs : List ℕ) → j ≤ 8 → length xs ≡ j → length xs + length (replicate {A = ℕ} (8 - j) 0) ≡ 8
-    total j xs le long = omega (arith, length-replicate {A = ℕ} (8 - j) 0)
+more : (xs : List ℕ) {these those : List ℕ} (j k : ℕ) → j ≡ k → these ≡ those → get_or xs j 0 ∷ these ≡ cell 0 xs k ∷ those
+more xs j k e rest = ap₂ {A = ℕ} {B = List ℕ} (λ x l. x ∷ l) (ap (λ i. get_or xs i 0) e ∙ sym (cell_is xs k)) rest
 
-    zeros_left : (j k : ℕ) → j ≤ k → drop j (replicate {A = ℕ} k 0) ≡ replicate (k - j) 0
-    zeros_left zero k le = ap (λ m. replicate {A = ℕ} m 0) (omega arith)
-    zeros_left (suc j) zero le = absurd (omega arith)
-    zeros_left (suc j) (suc k) le = zeros_left j k (omega arith) ∙ ap (λ m. replicate {A = ℕ} m 0) (omega arith)
+pub two_bytes : (at : ℕ) (xs : List ℕ) → get_or xs at 0 ∷ get_or xs (at + 1) 0 ∷ [] ≡ bytes_at at 2 xs
+two_bytes at xs = more xs at at refl (more xs (at + 1) (at + 1) refl refl)
+
+pub four_bytes : (at : ℕ) (xs : List ℕ) → get_or xs at 0 ∷ get_or xs (at + 1) 0 ∷ get_or xs (at + 2) 0 ∷ get_or xs (at + 3) 0 ∷ [] ≡ bytes_at at 4 xs
+four_bytes at xs =
+    more xs at at refl (more xs (at + 1) (at + 1) refl (more xs (at + 2) (at + 1 + 1) (omega arith) (more xs (at + 3) (at + 1 + 1 + 1) (omega arith) refl)))
+
+pub eight_bytes : (at : ℕ) (xs : List ℕ)
+    → get_or xs at 0 ∷ get_or xs (at + 1) 0 ∷ get_or xs (at + 2) 0 ∷ get_or xs (at + 3) 0
+      ∷ get_or xs (at + 4) 0 ∷ get_or xs (at + 5) 0 ∷ get_or xs (at + 6) 0 ∷ get_or xs (at + 7) 0 ∷ []
+      ≡ bytes_at at 8 xs
+eight_bytes at xs =
+    let back : get_or xs (at + 4) 0 ∷ get_or xs (at + 5) 0 ∷ get_or xs (at + 6) 0 ∷ get_or xs (at + 7) 0 ∷ [] ≡ bytes_at (at + 1 + 1 + 1 + 1) 4 xs =
+    more xs (at + 4) (at + 1 + 1 + 1 + 1) (omega arith) (more xs (at + 5) (at + 1 + 1 + 1 + 1 + 1) (omega arith)
+    (more xs (at + 6) (at + 1 + 1 + 1 + 1 + 1 + 1) (omega arith) (more xs (at + 7) (at + 1 + 1 + 1 + 1 + 1 + 1 + 1) (omega arith) refl))) in
+    more xs at at refl (more xs (at + 1) (at + 1) refl (more xs (at + 2) (at + 1 + 1) (omega arith) (more xs (at + 3) (at + 1 + 1 + 1) (omega arith) back)))
+
+set_too : {xs ys : List ℕ} (i j b : ℕ) → i ≡ j → xs ≡ ys → set xs i b ≡ set ys j b
+set_too i j b e same = ap₂ {A = List ℕ} {B = ℕ} (λ l k. set l k b) same e
+
+pub sets_one : (at a : ℕ) (xs : List ℕ) → at + 1 ≤ length xs → set xs at a ≡ written at (a ∷ []) xs
+sets_one at a xs le = sym (written_sets at (a ∷ []) xs (omega arith))
+
+pub sets_two : (at a b : ℕ) (xs : List ℕ) → at + 2 ≤ length xs → set (set xs at a) (at + 1) b ≡ written at (a ∷ b ∷ []) xs
+sets_two at a b xs le = set_too (at + 1) (suc at) b (omega arith) refl ∙ sym (written_sets at (a ∷ b ∷ []) xs (omega arith))
+
+pub sets_four : (at a b c d : ℕ) (xs : List ℕ) → at + 4 ≤ length xs
+    → set (set (set (set xs at a) (at + 1) b) (at + 2) c) (at + 3) d ≡ written at (a ∷ b ∷ c ∷ d ∷ []) xs
+sets_four at a b c d xs le =
+    set_too (at + 3) (suc (suc (suc at))) d (omega arith) (set_too (at + 2) (suc (suc at)) c (omega arith) (set_too (at + 1) (suc at) b (omega arith) refl))
+    ∙ sym (written_sets at (a ∷ b ∷ c ∷ d ∷ []) xs (omega arith))
+
+pub sets_eight : (at a b c d e f g h : ℕ) (xs : List ℕ) → at + 8 ≤ length xs
+    → set (set (set (set (set (set (set (set xs at a) (at + 1) b) (at + 2) c) (at + 3) d) (at + 4) e) (at + 5) f) (at + 6) g) (at + 7) h
+      ≡ written at (a ∷ b ∷ c ∷ d ∷ e ∷ f ∷ g ∷ h ∷ []) xs
+sets_eight at a b c d e f g h xs le =
+    let front = set_too (at + 3) (suc (suc (suc at))) d (omega arith)
+    (set_too (at + 2) (suc (suc at)) c (omega arith) (set_too {xs = set xs at a} {ys = set xs at a} (at + 1) (suc at) b (omega arith) refl)) in
+    set_too (at + 7) (suc (suc (suc (suc (suc (suc (suc at))))))) h (omega arith) (set_too (at + 6) (suc (suc (suc (suc (suc (suc at)))))) g (omega arith)
+    (set_too (at + 5) (suc (suc (suc (suc (suc at))))) f (omega arith) (set_too (at + 4) (suc (suc (suc (suc at)))) e (omega arith) front)))
+    ∙ sym (written_sets at (a ∷ b ∷ c ∷ d ∷ e ∷ f ∷ g ∷ h ∷ []) xs (omega arith))
 
 -- a copy within a list, as std writes it
 pub copied : (to from count : ℕ) (xs : List ℕ) → from + count ≤ length xs → to + count ≤ length xs

@@ -4,51 +4,115 @@ ghost use Rattle.std.specs.Prelude.{◌≡◌, ◌+◌, ◌≤◌, length, repli
 ghost use Rattle.wasm_meaning.specs.Memory.{bytes_at, bytes_of, number_from, written};
 ghost use Rattle.run_store.specs.Pages.{IsWidth};
 
-/// The number in `N` bytes from an address on.
-fn number_at<const N: usize>(bytes: &[u8], at: usize) -> u64
-    requires width { N ≤ 8 }
-    requires within { at + N ≤ length bytes.now }
-    ensures { result ≡ number_from (bytes_at at N bytes.now) }
+/// The number in two bytes from an address on.
+fn two_at(bytes: &[u8], at: usize) -> u16
+    requires { at + 2 ≤ length bytes.now }
+    ensures { result ≡ number_from (bytes_at at 2 bytes.now) }
 {
-    let mut low = [0; 8];
-    low[..N].copy_from_slice(&bytes[at..at + N]);
-    u64::from_le_bytes(low)
+    u16::from_le_bytes([bytes[at], bytes[at + 1]])
 }
 
-/// Writes the low `N` bytes of a number from an address on.
-fn put_number<const N: usize>(bytes: &mut [u8], at: usize, number: u64)
-    requires width { N ≤ 8 }
-    requires within { at + N ≤ length bytes.old }
-    ensures { bytes.new ≡ written at (bytes_of N number) bytes.old }
+/// The number in four bytes from an address on.
+fn four_at(bytes: &[u8], at: usize) -> u32
+    requires { at + 4 ≤ length bytes.now }
+    ensures { result ≡ number_from (bytes_at at 4 bytes.now) }
 {
-    bytes[at..at + N].copy_from_slice(&number.to_le_bytes()[..N]);
+    u32::from_le_bytes([bytes[at], bytes[at + 1], bytes[at + 2], bytes[at + 3]])
+}
+
+/// The number in eight bytes from an address on.
+fn eight_at(bytes: &[u8], at: usize) -> u64
+    requires { at + 8 ≤ length bytes.now }
+    ensures { result ≡ number_from (bytes_at at 8 bytes.now) }
+{
+    u64::from_le_bytes([
+        bytes[at],
+        bytes[at + 1],
+        bytes[at + 2],
+        bytes[at + 3],
+        bytes[at + 4],
+        bytes[at + 5],
+        bytes[at + 6],
+        bytes[at + 7],
+    ])
+}
+
+/// Writes the low byte of a number at an address.
+fn put_one(bytes: &mut [u8], at: usize, number: u64)
+    requires { at + 1 ≤ length bytes.old }
+    ensures { bytes.new ≡ written at (bytes_of 1 number) bytes.old }
+{
+    let low = number.to_le_bytes();
+    bytes[at] = low[0];
+}
+
+/// Writes the low two bytes of a number from an address on.
+fn put_two(bytes: &mut [u8], at: usize, number: u64)
+    requires { at + 2 ≤ length bytes.old }
+    ensures { bytes.new ≡ written at (bytes_of 2 number) bytes.old }
+{
+    let low = number.to_le_bytes();
+    bytes[at] = low[0];
+    bytes[at + 1] = low[1];
+}
+
+/// Writes the low four bytes of a number from an address on.
+fn put_four(bytes: &mut [u8], at: usize, number: u64)
+    requires { at + 4 ≤ length bytes.old }
+    ensures { bytes.new ≡ written at (bytes_of 4 number) bytes.old }
+{
+    let low = number.to_le_bytes();
+    bytes[at] = low[0];
+    bytes[at + 1] = low[1];
+    bytes[at + 2] = low[2];
+    bytes[at + 3] = low[3];
+}
+
+/// Writes the eight bytes of a number from an address on.
+fn put_eight(bytes: &mut [u8], at: usize, number: u64)
+    requires { at + 8 ≤ length bytes.old }
+    ensures { bytes.new ≡ written at (bytes_of 8 number) bytes.old }
+{
+    let low = number.to_le_bytes();
+    bytes[at] = low[0];
+    bytes[at + 1] = low[1];
+    bytes[at + 2] = low[2];
+    bytes[at + 3] = low[3];
+    bytes[at + 4] = low[4];
+    bytes[at + 5] = low[5];
+    bytes[at + 6] = low[6];
+    bytes[at + 7] = low[7];
 }
 
 /// The number in 1, 2, 4 or 8 bytes from an address on.
+// Inlined, so that a width that is known is not asked for.
+#[inline(always)]
 pub(crate) fn load_number(bytes: &[u8], at: usize, width: u32) -> u64
     requires width { IsWidth width }
     requires within { at + width ≤ length bytes.now }
     ensures { result ≡ number_from (bytes_at at width bytes.now) }
 {
     match width {
-        1 => number_at::<1>(bytes, at),
-        2 => number_at::<2>(bytes, at),
-        4 => number_at::<4>(bytes, at),
-        _ => number_at::<8>(bytes, at),
+        1 => u64::from(bytes[at]),
+        2 => u64::from(two_at(bytes, at)),
+        4 => u64::from(four_at(bytes, at)),
+        _ => eight_at(bytes, at),
     }
 }
 
 /// Writes the low 1, 2, 4 or 8 bytes of a number from an address on.
+// Inlined, so that a width that is known is not asked for.
+#[inline(always)]
 pub(crate) fn store_number(bytes: &mut [u8], at: usize, width: u32, number: u64)
     requires width { IsWidth width }
     requires within { at + width ≤ length bytes.old }
     ensures { bytes.new ≡ written at (bytes_of width number) bytes.old }
 {
     match width {
-        1 => put_number::<1>(bytes, at, number),
-        2 => put_number::<2>(bytes, at, number),
-        4 => put_number::<4>(bytes, at, number),
-        _ => put_number::<8>(bytes, at, number),
+        1 => put_one(bytes, at, number),
+        2 => put_two(bytes, at, number),
+        4 => put_four(bytes, at, number),
+        _ => put_eight(bytes, at, number),
     }
 }
 

@@ -62,6 +62,7 @@ impl PageStore {
     }
 
     /// The number in so many bytes from an address on, the least first: none exactly where they aren't all there.
+    #[inline(always)]
     pub fn load(&self, at: u64, width: u32) -> Option<u64>
         requires address { at < 2 ^ 33 }
         requires width { IsWidth width }
@@ -75,6 +76,7 @@ impl PageStore {
     }
 
     /// Writes the low bytes of a number from an address on, the least first: none exactly where they don't all lie within, and then nothing changes.
+    #[inline(always)]
     pub fn store(&mut self, at: u64, width: u32, number: u64) -> Option<()>
         requires address { at < 2 ^ 33 }
         requires width { IsWidth width }
