@@ -19,37 +19,41 @@ pub fn binary(op: BinOp, w: Width, a: u64, b: u64) -> Result<u64, Reason>
     ensures { result ≡ answer_of w (binary_of w op a b) }
 {
     match w {
-        Width::W32 => match binary_32(op, a as u32, b as u32) {
-            Ok(n) => Ok(n as u64),
-            Err(reason) => Err(reason),
-        },
+        Width::W32 => binary_32(op, a as u32, b as u32),
         Width::W64 => binary_64(op, a, b),
     }
 }
 
-fn binary_32(op: BinOp, a: u32, b: u32) -> Result<u32, Reason>
+// The answers are as wide as those of 64 bits, so that nothing is asked of them again.
+fn binary_32(op: BinOp, a: u32, b: u32) -> Result<u64, Reason>
     ensures { result ≡ answer_of W32 (binary_of W32 op a b) }
 {
     match op {
-        BinOp::Add => Ok(a.wrapping_add(b)),
-        BinOp::Sub => Ok(a.wrapping_sub(b)),
-        BinOp::Mul => Ok(a.wrapping_mul(b)),
+        BinOp::Add => Ok(u64::from(a.wrapping_add(b))),
+        BinOp::Sub => Ok(u64::from(a.wrapping_sub(b))),
+        BinOp::Mul => Ok(u64::from(a.wrapping_mul(b))),
         BinOp::DivS => signed_quotient_32(a, b),
-        BinOp::DivU => a.checked_div(b).ok_or(Reason::DivideByZero),
+        BinOp::DivU => match a.checked_div(b) {
+            Some(quotient) => Ok(u64::from(quotient)),
+            None => Err(Reason::DivideByZero),
+        },
         BinOp::RemS => signed_remainder_32(a, b),
-        BinOp::RemU => a.checked_rem(b).ok_or(Reason::DivideByZero),
-        BinOp::And => Ok(a & b),
-        BinOp::Or => Ok(a | b),
-        BinOp::Xor => Ok(a ^ b),
-        BinOp::Shl => Ok(a << (b % 32)),
-        BinOp::ShrS => Ok((a.cast_signed() >> (b % 32)).cast_unsigned()),
-        BinOp::ShrU => Ok(a >> (b % 32)),
-        BinOp::Rotl => Ok(a.rotate_left(b)),
-        BinOp::Rotr => Ok(a.rotate_right(b)),
+        BinOp::RemU => match a.checked_rem(b) {
+            Some(remainder) => Ok(u64::from(remainder)),
+            None => Err(Reason::DivideByZero),
+        },
+        BinOp::And => Ok(u64::from(a & b)),
+        BinOp::Or => Ok(u64::from(a | b)),
+        BinOp::Xor => Ok(u64::from(a ^ b)),
+        BinOp::Shl => Ok(u64::from(a << (b % 32))),
+        BinOp::ShrS => Ok(u64::from((a.cast_signed() >> (b % 32)).cast_unsigned())),
+        BinOp::ShrU => Ok(u64::from(a >> (b % 32))),
+        BinOp::Rotl => Ok(u64::from(a.rotate_left(b))),
+        BinOp::Rotr => Ok(u64::from(a.rotate_right(b))),
     }
 }
 
-fn signed_quotient_32(a: u32, b: u32) -> Result<u32, Reason>
+fn signed_quotient_32(a: u32, b: u32) -> Result<u64, Reason>
     ensures { result ≡ answer_of W32 (binary_of W32 bin.DivS a b) }
 {
     if b == 0 {
@@ -57,18 +61,19 @@ fn signed_quotient_32(a: u32, b: u32) -> Result<u32, Reason>
     } else if a == 0x8000_0000 && b == u32::MAX {
         Err(Reason::Overflow)
     } else {
-        Ok((a.cast_signed() / b.cast_signed()).cast_unsigned())
+        let quotient = (a.cast_signed() / b.cast_signed()).cast_unsigned();
+        Ok(u64::from(quotient))
     }
 }
 
-fn signed_remainder_32(a: u32, b: u32) -> Result<u32, Reason>
+fn signed_remainder_32(a: u32, b: u32) -> Result<u64, Reason>
     ensures { result ≡ answer_of W32 (binary_of W32 bin.RemS a b) }
 {
     if b == 0 {
         Err(Reason::DivideByZero)
     } else {
         let remainder = a.cast_signed().wrapping_rem(b.cast_signed());
-        Ok(remainder.cast_unsigned())
+        Ok(u64::from(remainder.cast_unsigned()))
     }
 }
 

@@ -10,5 +10,5 @@ mod numbers;
 mod run;
 mod step;
 
-pub use invocation::{InvokeEnd, Run, invoke};
+pub use invocation::{Call, InvokeEnd, Run, invoke};
 pub use numbers::value_for;

@@ -52,8 +52,10 @@ fn widen(op: LoadOp, number: u64) -> u64
     }
 }
 
-/// The number that a load from an address leaves: none exactly where it reads past the end.
-pub(crate) fn load(store: &PageStore, op: LoadOp, at: u64) -> Option<u64>
+/// What a load from an address leaves.
+// Inlined with each operation by itself, so that nothing is asked of it any more.
+#[inline(always)]
+fn load_by(store: &PageStore, op: LoadOp, at: u64) -> Option<u64>
     requires { at < 2 ^ 33 }
     ensures { result ≡ loaded op at store.now.bytes }
 {
@@ -65,11 +67,51 @@ pub(crate) fn load(store: &PageStore, op: LoadOp, at: u64) -> Option<u64>
     }
 }
 
+/// The number that a load from an address leaves: none exactly where it reads past the end.
+pub(crate) fn load(store: &PageStore, op: LoadOp, at: u64) -> Option<u64>
+    requires { at < 2 ^ 33 }
+    ensures { result ≡ loaded op at store.now.bytes }
+{
+    match op {
+        LoadOp::I32 => load_by(store, LoadOp::I32, at),
+        LoadOp::I32S8 => load_by(store, LoadOp::I32S8, at),
+        LoadOp::I32U8 => load_by(store, LoadOp::I32U8, at),
+        LoadOp::I32S16 => load_by(store, LoadOp::I32S16, at),
+        LoadOp::I32U16 => load_by(store, LoadOp::I32U16, at),
+        LoadOp::I64 => load_by(store, LoadOp::I64, at),
+        LoadOp::I64S8 => load_by(store, LoadOp::I64S8, at),
+        LoadOp::I64U8 => load_by(store, LoadOp::I64U8, at),
+        LoadOp::I64S16 => load_by(store, LoadOp::I64S16, at),
+        LoadOp::I64U16 => load_by(store, LoadOp::I64U16, at),
+        LoadOp::I64S32 => load_by(store, LoadOp::I64S32, at),
+        LoadOp::I64U32 => load_by(store, LoadOp::I64U32, at),
+    }
+}
+
+/// Writes the low bytes of a number to an address.
+// Inlined with each operation by itself, so that nothing is asked of it any more.
+#[inline(always)]
+fn store_by(store: &mut PageStore, op: StoreOp, at: u64, number: u64) -> Option<()>
+    requires { at < 2 ^ 33 }
+    ensures answer { is_some result ≡ is_within at (bytes_written op) (length store.old.bytes) }
+    ensures after { store.new ≡ after_write store.old at (bytes_of (bytes_written op) number) }
+{
+    store.store(at, store_bytes(op), number)
+}
+
 /// Writes the low bytes of a number to an address: none exactly where they don't all lie within, and then nothing changes.
 pub(crate) fn store(store: &mut PageStore, op: StoreOp, at: u64, number: u64) -> Option<()>
     requires { at < 2 ^ 33 }
     ensures answer { is_some result ≡ is_within at (bytes_written op) (length store.old.bytes) }
     ensures after { store.new ≡ after_write store.old at (bytes_of (bytes_written op) number) }
 {
-    store.store(at, store_bytes(op), number)
+    match op {
+        StoreOp::I32 => store_by(store, StoreOp::I32, at, number),
+        StoreOp::I32B8 => store_by(store, StoreOp::I32B8, at, number),
+        StoreOp::I32B16 => store_by(store, StoreOp::I32B16, at, number),
+        StoreOp::I64 => store_by(store, StoreOp::I64, at, number),
+        StoreOp::I64B8 => store_by(store, StoreOp::I64B8, at, number),
+        StoreOp::I64B16 => store_by(store, StoreOp::I64B16, at, number),
+        StoreOp::I64B32 => store_by(store, StoreOp::I64B32, at, number),
+    }
 }

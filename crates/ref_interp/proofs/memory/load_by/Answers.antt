@@ -1,7 +1,7 @@
 use Rattle.std.proofs.Common.{◌<◌, ◌*◌, ◌^◌, length, subst}
 use Rattle.wasm_types.specs.Hosts.{is_within}
 use Rattle.ref_interp.proofs.LoadedNumbers.{read_small}
-use Rattle.ref_interp.proofs.memory.load.Goals as goal
+use Rattle.ref_interp.proofs.memory.load_by.Goals as goal
 
 pub widen-requires : goal.widen-requires
 widen-requires c =
