@@ -25,7 +25,9 @@ use Rattle.inst_make.specs.Instances.{StandsFor}
 use Rattle.inst_make.specs.Starts.{Instantiates}
 use Rattle.inst_make.proofs.Standing.{stands_fit, stands_for_start}
 use Rattle.ref_interp.specs.declared.invocation.Run.{Run}
-use Rattle.ref_interp.specs.Invokes.{IsAfter, IsOutcome, Watches, Invokes}
+use Rattle.flat_code.specs.declared.op.Program.{Program}
+use Rattle.flat_code.specs.Flat.{Flattens}
+use Rattle.ref_interp.specs.Invokes.{IsAfter, IsOutcome, Serves, Watches, Invokes}
 use Rattle.module_run.specs.Runs.{most_run_pages, first_values, run_start, CanRun, without, returned, after_turns, InStart, Ran, RunsTo, elem_out, data_out, in_start, ran, Runs}
 use Rattle.module_run.specs.Steps.{unused, not_begun, IsStart, begun_as, Stops, IsPrepared, HasBegun, TurnsWithin}
 use Rattle.module_run.proofs.Beginning.{none_typed}
@@ -82,6 +84,11 @@ module _ (m : Module) (sealed : IsSealed m) (replies : List Reply) (budget : ℕ
         let w = some_watch m g None in
         let o : IsOutcome m g w.0 [] (run_start m replies) budget run new = h.1 (run_start m replies) (start_stands old start) w.0 w.1 in
         by_end w.0 run.ended o.final run.trace.items o.outcome o.after
+
+-- a program of the module, whatever is watched in it
+pub some_watched : (m : Module) (p : Program) (f : ℕ) (watch : Option Pos) → Serves m p f watch → (watched : Option (ℕ × Pos)) × Flattens m watched p
+some_watched m p f None h = h
+some_watched m p f (Some i) h = (Some (f, i), h)
 
 -- a module that isn't instantiated
 pub not_begun_runs : (m : Module) (f : ℕ) (watch : Option Pos) (args : List Value) (replies : List Reply) (budget : ℕ) (e : InstEnd)

@@ -1,18 +1,22 @@
 //! Runs.
 
-ghost use Rattle.std.specs.Prelude.{◌≡◌, ◌+◌, ◌<◌, ◌^◌, IfOk, List, Some, map};
+ghost use Rattle.std.specs.Prelude.{◌≡◌, ℕ, ◌+◌, ◌<◌, ◌^◌, IfOk, List, Option, Some, map};
 ghost use Rattle.wasm_types.specs.declared.module.FuncType.{FuncType};
+ghost use Rattle.wasm_types.specs.declared.module.Pos.{Pos};
 ghost use Rattle.wasm_types.specs.declared.run.Reply.{Reply};
 ghost use Rattle.wasm_types.specs.Spaces.{global_import, imported, type_of_func};
 ghost use Rattle.wasm_types.specs.declared.module.GlobalType.{GlobalType};
 ghost use Rattle.wasm_meaning.specs.Fits.{HaveTypes};
 ghost use Rattle.wasm_meaning.specs.Invoke.{zero_value};
 ghost use Rattle.inst_make.specs.Starts.{Instantiates};
+ghost use Rattle.flat_code.specs.Flat.{Flattens};
+ghost use Rattle.ref_interp.specs.Invokes.{Serves};
 ghost use Rattle.module_run.specs.Runs.{Runs, after_turns, first_values, most_run_pages};
 ghost use Rattle.module_run.specs.Steps.{HasBegun, IsStart, TurnsWithin, begun_as, not_begun, unused};
 
+use flat_code::{Program, compile};
 use inst_make::{InstEnd, Instance, instantiate};
-use ref_interp::invoke;
+use ref_interp::{Call, invoke};
 use run_store::Script;
 use sqlite_items::Items;
 use std::alloc::{AllocError, Global};
@@ -119,20 +123,43 @@ fn begun_by(ended: Ended) -> Begun
     }
 }
 
+/// The module's program, in which that position of the function is watched, where one is.
+fn program_of(
+    alloc: Global,
+    m: &ValidModule,
+    func: u32,
+    watch: Option<Pos>,
+) -> Result<Program, NoMemory>
+    ensures { IfOk result (λ p. Serves m.now p func watch) }
+{
+    match watch {
+        Some(pos) => compile(alloc, m, Some((func, pos))),
+        None => compile(alloc, m, None),
+    }
+}
+
 /// Runs the start function, where there is one, within a budget of turns.
 fn start(
     alloc: Global,
     m: &ValidModule,
+    program: &Program,
     inst: &mut Instance,
     budget: u32,
 ) -> Result<Begun, NoMemory>
-    requires { (replies : List Reply) × IsStart m.now replies inst.old }
+    requires code { (watched : Option (ℕ × Pos)) × Flattens m.now watched program.now }
+    requires start { (replies : List Reply) × IsStart m.now replies inst.old }
     ensures { IfOk result (λ b. (replies : List Reply) → IsStart m.now replies inst.old → HasBegun m.now replies budget inst.new b) }
 {
     let Some(func) = m.module().start else {
         return Ok(Begun::Prepared { turns: 0 });
     };
-    match invoke(alloc, m, inst, func, &[], budget, None) {
+    let call = Call {
+        func,
+        args: &[],
+        budget,
+        watch: None,
+    };
+    match invoke(alloc, m, program, inst, &call) {
         Ok(run) => Ok(begun_by(run.ended)),
         Err(_) => Err(NoMemory),
     }
@@ -178,13 +205,23 @@ pub fn run(
         Ok(inst) => inst,
         Err(end) => return without_instance(end),
     };
-    let turns = match start(alloc, m, &mut inst, budget) {
+    // The start function and the function run by the same program.
+    let Ok(program) = program_of(alloc, m, func, watch) else {
+        return Err(RunRefusal::Memory);
+    };
+    let turns = match start(alloc, m, &program, &mut inst, budget) {
         Ok(Begun::Prepared { turns }) => turns,
         Ok(Begun::Stopped { ended }) => return Ok(RunEnd::InStart { ended }),
         Err(NoMemory) => return Err(RunRefusal::Memory),
     };
     let left = budget - turns;
-    match invoke(alloc, m, &mut inst, func, args, left, watch) {
+    let call = Call {
+        func,
+        args,
+        budget: left,
+        watch,
+    };
+    match invoke(alloc, m, &program, &mut inst, &call) {
         Ok(run) => Ok(RunEnd::Ran {
             ended: after(turns, run.ended, left),
             trace: run.trace,

@@ -2,7 +2,7 @@ use Rattle.std.proofs.Common.{sym, subst}
 use Rattle.wasm_types.specs.declared.run.Ended.{Ended}
 use Rattle.module_run.specs.Runs.{Ran, RunsTo, Runs}
 use Rattle.module_run.specs.Steps.{IsStart, IsPrepared, Stops, HasBegun}
-use Rattle.module_run.proofs.Steps.{not_begun_runs, start_ends, turns_within, run_ends}
+use Rattle.module_run.proofs.Steps.{some_watched, not_begun_runs, start_ends, turns_within, run_ends}
 use Rattle.module_run.proofs.runs.run.Goals as goal
 
 pub returns-in-Err : goal.returns-in-Err
@@ -53,3 +53,7 @@ returns-in-Ok-invoke c =
           (run_ends m c.args.replies c.args.budget c.in-Ok-Prepared.turns c.start.new.inst c.invoke.new.inst p c.args.func c.args.watch c.args.args.now
           c.in-Ok-invoke.run' c.in-Ok-invoke.ensures begun_here.can i w),
     )
+
+pub start-requires-clause-code : goal.start-requires-clause-code
+start-requires-clause-code c =
+    some_watched c.args.m.now c.in-Ok-program_of.program c.args.func c.args.watch c.in-Ok-program_of.ensures

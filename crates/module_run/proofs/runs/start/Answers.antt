@@ -20,3 +20,6 @@ returns-in-Ok c = λ replies s.
     let at : c.args.m.now.start ≡ Some c.in-Some.func = sym (ap (λ (z : Module). z.start) c.module.ensures.same) ∙ c.in-Some.is in
     subst (HasBegun c.args.m.now replies c.args.budget c.invoke.new.inst) (sym c.begun_by.ensures)
     (begun_with c.args.m.now c.module.ensures.sealed replies c.args.budget c.args.inst.now c.invoke.new.inst s c.in-Some.func at c.in-Ok.run' c.in-Ok.ensures)
+
+pub invoke-requires-clause-code : goal.invoke-requires-clause-code
+invoke-requires-clause-code c = c.requires.code
