@@ -1,0 +1,197 @@
+-- Rows that are added are rows of rounds, and where no rows are to be added all rounds' are there.
+use Rattle.std.proofs.Common.{◌≡◌, ◌↔◌, ℕ, zero, suc, ◌+◌, ◌<◌, ◌≤◌, ◌⊎◌, inl, inr, ⊎_elim, List, Bool, true, false, Option, Some, None, IsSome, length, get_or, slice_get, refl, sym, ap, ◌∙◌, subst, arith, length-append}
+use Rattle.std.proofs.lemmas.Option.{slice_get_within, slice_get-get_or}
+use Rattle.wasm_types.specs.declared.module.FuncType.{FuncType}
+use Rattle.wasm_types.specs.declared.module.Module.{Module}
+use Rattle.wasm_types.specs.declared.instr.Instr.{Instr}
+use Rattle.wasm_types.specs.declared.place.Loc.{Loc}
+use Rattle.wasm_types.specs.Actions.{Callee, Own, Through}
+use Rattle.wasm_types.specs.Funcs.{Func, func_of}
+use Rattle.wasm_types.specs.Nodes.{At}
+use Rattle.wasm_types.specs.Sites.{DoHead, Site, Sites, IsSite}
+use Rattle.wasm_types.specs.Spaces.{func_types, func_import, imported, globals_of, import_count, type_of_func, body_of}
+use Rattle.wasm_types.specs.Subset.{HasNoFloat}
+use Rattle.wasm_types.specs.Validity.{IsValid}
+use Rattle.flow_domain.specs.Bounds.{Cover, Bounds, bounds}
+use Rattle.flow_domain.specs.Reach.{CallsFunc}
+use Rattle.flow_domain.specs.Rows.{Output, Ret, Final, Done, Rows, RowOf, Makes, Led, LedTo, by_code, by_host, Dep, AnyRound, ImportRows, func_sites, func_ends}
+use Rattle.flow_domain.specs.Summaries.{IsSet, row_number, column_number, HasInput, IsKnown, IsMerged, IsShape, IsTableOf, TableRows}
+use Rattle.flow_domain.specs.Touch.{IsExact}
+use Rattle.flow_domain.specs.declared.summary.Summary.{Summary}
+use Rattle.flow_domain.specs.declared.summary_table.SummaryTable.{SummaryTable}
+use Rattle.flow_laws.proofs.Sound.{any_round_holds}
+use Rattle.summary_fix.specs.Settled.{IsSound, IsFull}
+use Rattle.summary_fix.specs.TwoRuns.{IsLeastTable}
+use Rattle.summary_fix.proofs.Between.{Asks, led_asks, FuncAsksWithin, ledto_between}
+use Rattle.summary_fix.proofs.LiveSites.{IsCalled, site_calls}
+use Rattle.summary_fix.proofs.Known.{asked_known}
+use Rattle.summary_fix.proofs.Owned.{value_of, body_at, own_typed, parts, host_parts}
+
+pub apart_of : (grew : Bool) {A B : Type 0} → (grew ≡ true → A) → (grew ≡ false → B) → A ⊎ B
+apart_of true f g = inl (f refl)
+apart_of false f g = inr (g refl)
+
+set_known : (words : ℕ) (bits : List ℕ) (row column : Option ℕ) → IsSet words bits row column → IsSome row
+set_known words bits (Some r) c h = refl
+set_known words bits None c h = absurd h
+
+-- outputs that have rows are known
+pub has_known : (G : ℕ) (s : Summary) → s.globals ≡ G → (o : Output) (x : Loc) → HasInput s o x → IsKnown G o
+has_known G s e o x h = subst (λ n. IsKnown n o) e (set_known _ s.bits.items (row_number s.globals o) (column_number s.globals s.params x) h)
+
+-- ---- more rows
+
+callee_more : (m : Module) (R Q : Rows) (out : Output) (x : Loc) → ((h : ℕ) → R h out x → Q h out x) → (g : Callee) → RowOf m R g out x → RowOf m Q g out x
+callee_more m R Q out x more (Own f) row = more f row
+callee_more m R Q out x more (Through t n) (inl i) = inl i
+callee_more m R Q out x more (Through t n) (inr row) = inr (row.0, row.1, more row.0 row.2)
+
+-- the same of those that are called
+callee_more_of : (m : Module) (R Q : Rows) (out : Output) (x : Loc) (g : Callee) → ((h : ℕ) → IsCalled m g h → R h out x → Q h out x) → RowOf m R g out x
+    → RowOf m Q g out x
+callee_more_of m R Q out x (Own f) more row = more f refl row
+callee_more_of m R Q out x (Through t n) more (inl i) = inl i
+callee_more_of m R Q out x (Through t n) more (inr row) = inr (row.0, row.1, more row.0 row.1 row.2)
+
+-- one round over rows of rounds gives rows of a round
+pub round_sound : (B : Bounds) (R : Rows) → ((f : ℕ) (o : Output) (x : Loc) → R f o x → AnyRound B f o x) → (f : ℕ) (o : Output) (x : Loc)
+    → LedTo R B f o x → AnyRound B f o x
+round_sound B R within f o x led =
+    any_round_holds B f o x
+    (ledto_between B R (AnyRound B) f o x (λ F is p s op g out y site head called asked row. callee_more B.m R (AnyRound B) out y (λ h r. within h out y r) g row)
+    led)
+
+-- what is led to stays so where the rows of the functions called do
+pub local : (B : Bounds) (R Q : Rows) (f : ℕ) → ((h : ℕ) → CallsFunc B.m f h → (out : Output) (y : Loc) → R h out y → Q h out y) → (o : Output) (x : Loc)
+    → LedTo R B f o x → LedTo Q B f o x
+local B R Q f more o x led =
+    ledto_between B R Q f o x
+    (λ F is p s op g out y site head called asked row.
+    callee_more_of B.m R Q out y g (λ h callee r. more h (site_calls B f F p s op g is site head called h callee) out y r) row)
+    led
+
+-- ---- one function's rows are added to
+
+module _ (m : Module) (t u : SummaryTable) (func : ℕ) (s : Summary) (merged : IsMerged func s t u) where
+  -- what is added is led to by the rows that there are
+  rounds_more : IsSound m t → ((W : Cover) → IsExact m W → (o : Output) (x : Loc) → HasInput s o x → LedTo (TableRows t) (bounds m W) func o x)
+      → (W : Cover) → IsExact m W → (f : ℕ) (o : Output) (x : Loc) → TableRows u f o x → AnyRound (bounds m W) f o x
+  rounds_more sound made W exact f o x row = ⊎_elim
+      (λ old. sound.rounds W exact f o x old)
+      (λ (e, h). subst (λ n. AnyRound (bounds m W) n o x) (sym e)
+      (round_sound (bounds m W) (TableRows t) (sound.rounds W exact) func o x (made W exact o x h)))
+      ((merged.rows f o x).0 row)
+
+  back : (f : ℕ) → ((CallsFunc m f func → ⊥) ⊎ ((o : Output) (x : Loc) → HasInput s o x → TableRows t func o x)) → (h : ℕ) → CallsFunc m f h
+      → (out : Output) (y : Loc) → TableRows u h out y → TableRows t h out y
+  back f apart h calls out y row = ⊎_elim
+      (λ old. old)
+      (λ (e, k). ⊎_elim
+      (λ no. absurd (no (subst (CallsFunc m f) e calls)))
+      (λ had. subst (λ n. TableRows t n out y) (sym e) (had out y k))
+      apart)
+      ((merged.rows h out y).0 row)
+
+  -- full functions that don't call it stay full, and all do where nothing is new
+  pub full_more : (f : ℕ) → IsFull m t f → ((CallsFunc m f func → ⊥) ⊎ ((o : Output) (x : Loc) → HasInput s o x → TableRows t func o x)) → IsFull m u f
+  full_more f full apart = record {
+    has = λ W exact o x known led.
+        (merged.rows f o x).1 (inl (full.has W exact o x known (local (bounds m W) (TableRows u) (TableRows t) f (back f apart) o x led)));
+  }
+
+  -- the function itself is full where it has all that was led to, unless it calls itself and something is new
+  pub full_made : ((W : Cover) → IsExact m W → (o : Output) (x : Loc) → IsKnown (length (globals_of m)) o → LedTo (TableRows t) (bounds m W) func o x → HasInput s o x)
+      → ((CallsFunc m func func → ⊥) ⊎ ((o : Output) (x : Loc) → HasInput s o x → TableRows t func o x)) → IsFull m u func
+  full_made made apart = record {
+    has = λ W exact o x known led.
+        (merged.rows func o x).1 (inr (refl, made W exact o x known (local (bounds m W) (TableRows u) (TableRows t) func (back func apart) o x led)));
+  }
+
+  table_more : IsTableOf m t → import_count m ≤ func → IsTableOf m u
+  table_more is own = record {
+    long = merged.long ∙ is.long;
+    shapes = shape;
+    imports = λ f o x lt known. (
+      λ row. ⊎_elim (λ old. (is.imports f o x lt known).0 old) (λ (e, h). absurd (omega arith)) ((merged.rows f o x).0 row),
+      λ row. (merged.rows f o x).1 (inl ((is.imports f o x lt known).1 row)),
+    );
+  }
+    where
+      shape : (f : ℕ) (kind : FuncType) (b : Summary) → type_of_func m f ≡ Some kind → slice_get u.rows.items f ≡ Some b
+          → IsShape (length (globals_of m)) (length kind.params) b
+      shape f kind b typed at =
+          let within = slice_get_within u.rows.items f b at in
+          let long = merged.long in
+          let a = get_or t.rows.items f b in
+          let there : slice_get t.rows.items f ≡ Some a = slice_get-get_or t.rows.items f b (omega arith) in
+          let old = is.shapes f kind a typed there in
+          let same = merged.shapes f a b there at in
+          record { globals_is = same.globals_is ∙ old.globals_is; params_is = same.params_is ∙ old.params_is }
+
+  pub sound_more : IsSound m t → import_count m ≤ func
+      → ((W : Cover) → IsExact m W → (o : Output) (x : Loc) → HasInput s o x → LedTo (TableRows t) (bounds m W) func o x) → IsSound m u
+  sound_more sound own made = record { sealed = sound.sealed; table = table_more sound.table own; rounds = rounds_more sound made }
+
+-- what rows are added to a function has the shape of its summary
+pub rows_shape : (m : Module) (t : SummaryTable) → IsSound m t → (func : ℕ) → IsSome (body_of m func) → (s : Summary)
+    → ((kind : FuncType) → type_of_func m func ≡ Some kind → IsShape (length (globals_of m)) (length kind.params) s) → (a : Summary)
+    → slice_get t.rows.items func ≡ Some a → IsShape a.globals a.params s
+rows_shape m t sound func has s shape a here =
+    let b = value_of (body_of m func) has in
+    let at = body_at m func b.0 b.1 in
+    let typed = own_typed m sound.sealed.valid func at.own at.within in
+    let old = sound.table.shapes func typed.0 a typed.1 here in
+    let new = shape typed.0 typed.1 in
+    record { globals_is = new.globals_is ∙ sym old.globals_is; params_is = new.params_is ∙ sym old.params_is }
+
+pub rows_globals : (m : Module) (t : SummaryTable) → IsSound m t → (func : ℕ) → IsSome (body_of m func) → (s : Summary)
+    → ((kind : FuncType) → type_of_func m func ≡ Some kind → IsShape (length (globals_of m)) (length kind.params) s) → s.globals ≡ length (globals_of m)
+rows_globals m t sound func has s shape =
+    let b = value_of (body_of m func) has in
+    let at = body_at m func b.0 b.1 in
+    let typed = own_typed m sound.sealed.valid func at.own at.within in
+    (shape typed.0 typed.1).globals_is
+
+-- functions without a body have all their rows from the start
+pub imported_full : (m : Module) (t : SummaryTable) → IsTableOf m t → (f : ℕ) → body_of m f ≡ None → IsFull m t f
+imported_full m t is f none = record { has = go }
+  where
+    go : (W : Cover) → IsExact m W → (o : Output) (x : Loc) → IsKnown (length (globals_of m)) o → LedTo (TableRows t) (bounds m W) f o x → TableRows t f o x
+    go W exact o x known (by_code F own needed input) =
+        let p = parts m f F own in let wrong : None ≡ Some p.body = sym none ∙ p.body_is in absurd cc
+    go W exact o x known (by_host row) = (is.imports f o x (host_parts m f row.0 row.1).imported known).1 row
+
+-- ---- the end
+
+module _ (m : Module) (valid : IsValid m) (integer : HasNoFloat m) (t : SummaryTable) (sound : IsSound m t)
+    (full : (f : ℕ) → f < length (func_types m) → IsFull m t f) where
+  module _ (W : Cover) (exact : IsExact m W) where
+    -- only known outputs are asked for
+    known_only : (R : Rows) → ((h : ℕ) (out : Output) (y : Loc) → IsKnown (length (globals_of m)) out → R h out y → TableRows t h out y) → (f : ℕ)
+        (o : Output) (x : Loc) → LedTo R (bounds m W) f o x → LedTo (TableRows t) (bounds m W) f o x
+    known_only R more f o x led =
+        ledto_between (bounds m W) R (TableRows t) f o x
+        (λ F is p s op g out y site head called asked row.
+        callee_more m R (TableRows t) out y
+        (λ h r. more h out y
+        (asked_known m valid integer W exact.writes (func_sites (bounds m W) F) p s op g out site head called (led_asks (bounds m W) _ _ _ o (Makes (At p) out) asked))
+        r)
+        g row)
+        led
+
+    is_function : (R : Rows) (f : ℕ) (o : Output) (x : Loc) → LedTo R (bounds m W) f o x → f < length (func_types m)
+    is_function R f o x (by_code F is needed input) = (parts m f F is).within
+    is_function R f o x (by_host row) =
+        let lt = (host_parts m f row.0 row.1).imported in let long = length-append (imported func_import m.imports) m.funcs in omega arith
+
+    step : (R : Rows) → ((h : ℕ) (out : Output) (y : Loc) → IsKnown (length (globals_of m)) out → R h out y → TableRows t h out y) → (f : ℕ)
+        (o : Output) (x : Loc) → IsKnown (length (globals_of m)) o → LedTo R (bounds m W) f o x → TableRows t f o x
+    step R more f o x known led = (full f (is_function R f o x led)).has W exact o x known (known_only R more f o x led)
+
+    rounds_within : (n f : ℕ) (o : Output) (x : Loc) → IsKnown (length (globals_of m)) o → Dep (bounds m W) n f o x → TableRows t f o x
+    rounds_within zero f o x known led =
+        step (ImportRows m) (λ h out y k row. (sound.table.imports h out y (host_parts m h row.0 row.1).imported k).1 row) f o x known led
+    rounds_within (suc n) f o x known led = step (Dep (bounds m W) n) (λ h out y k row. rounds_within n h out y k row) f o x known led
+
+  pub least_table : IsLeastTable m t
+  least_table W exact f o x known = (sound.rounds W exact f o x, λ row. rounds_within W exact row.0 f o x known row.1)
