@@ -126,8 +126,8 @@ four_bytes at xs =
 
 pub eight_bytes : (at : ℕ) (xs : List ℕ)
     → get_or xs at 0 ∷ get_or xs (at + 1) 0 ∷ get_or xs (at + 2) 0 ∷ get_or xs (at + 3) 0
-      ∷ get_or xs (at + 4) 0 ∷ get_or xs (at + 5) 0 ∷ get_or xs (at + 6) 0 ∷ get_or xs (at + 7) 0 ∷ []
-      ≡ bytes_at at 8 xs
+    ∷ get_or xs (at + 4) 0 ∷ get_or xs (at + 5) 0 ∷ get_or xs (at + 6) 0 ∷ get_or xs (at + 7) 0 ∷ []
+    ≡ bytes_at at 8 xs
 eight_bytes at xs =
     let back : get_or xs (at + 4) 0 ∷ get_or xs (at + 5) 0 ∷ get_or xs (at + 6) 0 ∷ get_or xs (at + 7) 0 ∷ [] ≡ bytes_at (at + 1 + 1 + 1 + 1) 4 xs =
     more xs (at + 4) (at + 1 + 1 + 1 + 1) (omega arith) (more xs (at + 5) (at + 1 + 1 + 1 + 1 + 1) (omega arith)
@@ -151,7 +151,7 @@ sets_four at a b c d xs le =
 
 pub sets_eight : (at a b c d e f g h : ℕ) (xs : List ℕ) → at + 8 ≤ length xs
     → set (set (set (set (set (set (set (set xs at a) (at + 1) b) (at + 2) c) (at + 3) d) (at + 4) e) (at + 5) f) (at + 6) g) (at + 7) h
-      ≡ written at (a ∷ b ∷ c ∷ d ∷ e ∷ f ∷ g ∷ h ∷ []) xs
+    ≡ written at (a ∷ b ∷ c ∷ d ∷ e ∷ f ∷ g ∷ h ∷ []) xs
 sets_eight at a b c d e f g h xs le =
     let front = set_too (at + 3) (suc (suc (suc at))) d (omega arith)
     (set_too (at + 2) (suc (suc at)) c (omega arith) (set_too {xs = set xs at a} {ys = set xs at a} (at + 1) (suc at) b (omega arith) refl)) in
