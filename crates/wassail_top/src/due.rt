@@ -30,7 +30,7 @@ use report_text::{
     ModuleRefusal, Outcome, QueryRefusal, Refusal, kept_text, list_text, refusal_text, run_text,
     slice_text, valid_text,
 };
-use slice_closure::close;
+use slice_closure::close_named;
 use slice_whole::{Sliced, calls, slice};
 use sqlite_items::Items;
 use stack_names::{Names, names};
@@ -240,7 +240,8 @@ fn answer_trace(
     if let Some(cause) = code_refusal(valid, func) {
         return refuse(alloc, Refusal::Query(cause));
     }
-    if let Some(cause) = sight_refusal(alloc, valid, func, at)? {
+    let names = names(alloc, valid, func)?;
+    if let Some(cause) = sight_refusal(valid, func, &names, at) {
         return refuse(alloc, Refusal::Query(cause));
     }
     run_code(alloc, valid, func, Some(Pos(at)), budget, args, replies)
@@ -309,19 +310,21 @@ fn answer_kept(alloc: Global, valid: &ValidModule, func: u32, at: u32) -> Result
     if let Some(cause) = code_refusal(valid, func) {
         return refuse(alloc, Refusal::Query(cause));
     }
-    if let Some(cause) = sight_refusal(alloc, valid, func, at)? {
+    let names = names(alloc, valid, func)?;
+    if let Some(cause) = sight_refusal(valid, func, &names, at) {
         return refuse(alloc, Refusal::Query(cause));
     }
     let Some(body) = valid.module().body(func) else {
         unreachable!()
     };
+    let count = body.count();
     if calls(body.code.as_slice()) {
         return refuse(alloc, Refusal::Query(QueryRefusal::Unbuilt));
     }
-    let kept = close(alloc, valid, func, Pos(at))?;
+    let kept = close_named(alloc, valid, func, &names, Pos(at))?;
     Ok(Reply {
         status: Status::Answered,
-        out: kept_text(alloc, &kept, body.count())?,
+        out: kept_text(alloc, &kept, count)?,
         err: Vec::new(alloc),
     })
 }

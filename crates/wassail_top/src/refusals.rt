@@ -1,15 +1,15 @@
 //! The refusals that the ends of the layers below are: none where an allocation was refused.
 
-ghost use Rattle.std.specs.Prelude.{◌≡◌, IfOk, None};
+ghost use Rattle.std.specs.Prelude.{◌≡◌, ℕ, Bool, None};
+ghost use Rattle.stack_names.specs.Named.{AreNames};
 ghost use Rattle.wassail_top.specs.Queries.{why_not_seen};
 ghost use Rattle.wassail_top.specs.Refusals.{why_no_code, why_not_admitted, why_not_decoded, why_not_sliced};
 
 use report_text::{ModuleRefusal, QueryRefusal};
 use slice_whole::SliceRefusal;
-use stack_names::names;
-use std::alloc::Global;
+use stack_names::Names;
 use wasm_decode::DecodeEnd;
-use wasm_types::{NoMemory, Pos, ValidModule};
+use wasm_types::{Pos, ValidModule};
 use wasm_validate::AdmitEnd;
 
 /// Why bytes are refused that do not decode.
@@ -52,28 +52,23 @@ pub fn code_refusal(m: &ValidModule, func: u32) -> Option<QueryRefusal>
     }
 }
 
-/// Why nothing is seen at position `at` of function `func`, which has code: there is no such position, or it is dead.
-pub fn sight_refusal(
-    alloc: Global,
-    m: &ValidModule,
-    func: u32,
-    at: u32,
-) -> Result<Option<QueryRefusal>, NoMemory>
-    requires { why_no_code m.now func ≡ None }
-    ensures { IfOk result (λ cause. cause ≡ why_not_seen m.now func at) }
+/// Why nothing is seen at position `at` of function `func`, which has code and these names: there is no such position, or it is dead.
+pub fn sight_refusal(m: &ValidModule, func: u32, names: &Names, at: u32) -> Option<QueryRefusal>
+    requires code { why_no_code m.now func ≡ None }
+    requires names { (w : ℕ → Bool) → AreNames m.now func w names.now }
+    ensures { result ≡ why_not_seen m.now func at }
 {
     let Some(body) = m.module().body(func) else {
         unreachable!()
     };
     let count = body.count();
     if at >= count {
-        return Ok(Some(QueryRefusal::NoInstruction { at, count }));
+        return Some(QueryRefusal::NoInstruction { at, count });
     }
-    let names = names(alloc, m, func)?;
     if names.live(Pos(at)) {
-        Ok(None)
+        None
     } else {
-        Ok(Some(QueryRefusal::Dead { at }))
+        Some(QueryRefusal::Dead { at })
     }
 }
 

@@ -31,7 +31,7 @@ returns c =
     let b = c.in-Some-body.body.now in
     let own : body_of m f ≡ Some b = ap (λ (n : Module). body_of n f) (sym c.module.ensures.same) ∙ sym c.in-Some-body.ensures in
     let code : why_no_code m f ≡ None = sym c.in_default.ensures in
-    let seen : why_not_seen m f c.args.at ≡ None = sym c.in_ok-cause.ensures ∙ c.in_default-2.is in
+    let seen : why_not_seen m f c.args.at ≡ None = sym c.sight_refusal.ensures ∙ c.in_default-sight_refusal.is in
     let silent : calls_in (code_of b.code) ≡ false = ap (λ k. calls_in (code_of k)) (sym c.as_slice.ensures) ∙ sym c.if-calls.ensures in
     let built : why_not_built m f ≡ None =
     ap (λ (o : Option Body). if calls_of o then Some of_query.Unbuilt else None) own ∙ ap (λ (q : Bool). if q then Some of_query.Unbuilt else None) silent in
@@ -40,7 +40,7 @@ returns c =
     ∙ ap (λ (w : Option QueryRefusal). option_or w (why_not_built m f)) seen ∙ built in
     let kind = has_type m f c.requires.admitted.valid code in
     let has : HasBody m f b = ((has_code m f code).0, own_body m f b own) in
-    let many : c.count.result ≡ count (code_of b.code) = c.count.ensures ∙ length-flatten (code_of b.code) in
+    let many : c.count-count.result ≡ count (code_of b.code) = c.count-count.ensures ∙ length-flatten (code_of b.code) in
     taken (why_not_kept m f c.args.at) (IsKeptAs m f c.args.at) _ none (record {
       kind = kind.0;
       kind_is = kind.1;

@@ -19,13 +19,13 @@ returns-then-live c =
     let b = c.in-Some.body.now in
     let own : body_of c.args.m.now c.args.func ≡ Some b = ap (λ (n : Module). body_of n c.args.func) (sym c.module.ensures.same) ∙ sym c.in-Some.ensures in
     let many : c.count-count.result ≡ count (code_of b.code) = c.count-count.ensures ∙ length-flatten (code_of b.code) in
-    seen_by_names c.args.m.now c.args.func c.args.at c.count-count.result c.in_ok-names.names b true (c.in_ok-names.ensures unwatched) own many
+    seen_by_names c.args.m.now c.args.func c.args.at c.count-count.result c.args.names.now b true (c.requires.names unwatched) own many
     c.if-at-count.false (sym c.if-live.true ∙ c.live.ensures)
 
-pub returns : goal.returns
-returns c =
+pub returns-else-live : goal.returns-else-live
+returns-else-live c =
     let b = c.in-Some.body.now in
     let own : body_of c.args.m.now c.args.func ≡ Some b = ap (λ (n : Module). body_of n c.args.func) (sym c.module.ensures.same) ∙ sym c.in-Some.ensures in
     let many : c.count-count.result ≡ count (code_of b.code) = c.count-count.ensures ∙ length-flatten (code_of b.code) in
-    seen_by_names c.args.m.now c.args.func c.args.at c.count-count.result c.in_ok-names.names b false (c.in_ok-names.ensures unwatched) own many
+    seen_by_names c.args.m.now c.args.func c.args.at c.count-count.result c.args.names.now b false (c.requires.names unwatched) own many
     c.if-at-count.false (sym c.if-live.false ∙ c.live.ensures)
