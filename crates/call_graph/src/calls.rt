@@ -57,7 +57,7 @@ fn spread(
     Ok(pairs)
 }
 
-/// All nodes, each behind those that lead to it where no cycle leads back.
+/// All nodes, each behind those that it leads to, but for edges of cycles.
 fn order_by(alloc: Global, nodes: usize, edges: &[Edge]) -> Result<Vec<usize>, NoMemory>
     requires { All (λ (e : Edge). (e.from < nodes) × (e.to < nodes)) edges.now }
     ensures { IfOk result (λ order. (x : ℕ) → Contains order.items x ↔ (x < nodes)) }
@@ -208,7 +208,7 @@ impl CallGraph {
         }
     }
 
-    /// The functions, by their numbers, each behind those that it calls where no calls lead back; each stands there.
+    /// The functions of the module, by their numbers: callees first but where calls go round (a postorder), which the clause doesn't say.
     pub fn order(&self) -> &[usize]
         ensures { (m : Module) → IsCallGraph m self.now → (f : ℕ) → Contains result.now f ↔ IsFunction m f }
     {

@@ -1,4 +1,4 @@
-//! What the live positions of a body do.
+//! The direct effects of a body: what its live positions call, touch and write.
 
 ghost use Rattle.std.specs.Prelude.{◌≡◌, ◌++◌, IfOk};
 ghost use Rattle.wasm_types.specs.Code.{code_of, done, onto};

@@ -1,4 +1,4 @@
-//! Summaries of a module's functions: the least rows that hold all that they lead to, and what they leave out of two runs.
+//! Laws of summaries: when a table of rows is the least, and what rows leave out of two runs.
 #![tactic(auto)]
 
 mod laws;
