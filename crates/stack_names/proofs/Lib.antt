@@ -7,5 +7,6 @@ pub mod DistinctLemmas
 pub mod EffectLemmas
 pub mod WalkLaw
 pub mod WalkSteps
+pub mod EndLemmas
 pub mod PlaceTypes
 pub mod NameLemmas

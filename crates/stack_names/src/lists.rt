@@ -1,8 +1,8 @@
 //! The places that each position takes and shows, in one vector.
 
-ghost use Rattle.std.specs.Prelude.{◌≡◌, ◌≤◌, ◌++◌, ◌∷◌, [], IfOk, drop, length, slice_get};
+ghost use Rattle.std.specs.Prelude.{◌≡◌, ◌≤◌, ◌++◌, ◌∷◌, [], IfOk, OnErr, OnOk, drop, length, slice_get};
 ghost use Rattle.stack_names.specs.Named.{is_live_in, operands_in, stack_in};
-ghost use Rattle.stack_names.specs.Spans.{span_of};
+ghost use Rattle.stack_names.specs.Spans.{extent_from, extents, extent_or, start_in};
 
 use crate::part::part;
 use crate::place::Place;
@@ -11,10 +11,17 @@ use std::alloc::Global;
 use std::marker::Model;
 use wasm_types::NoMemory;
 
-/// Where the places of a live position stand: those of its stack from `start` to `end`, the last of which, from `operands` on, are its operands. The numbers
-/// are short, since there is a span for each position.
+/// Where the places of a position end, and from where on they are its operands. They begin where those of the position before it end. Of a dead position, which
+/// has no places, the operands begin behind the end. The numbers are short and few, since there is a span for each position.
 #[derive(Clone, Copy)]
 pub(crate) struct Span {
+    operands: u32,
+    end: u32,
+}
+
+/// Where the places of a live position stand: those of its stack from `start` to `end`, the last of which, from `operands` on, are its operands.
+#[derive(Clone, Copy)]
+pub(crate) struct Extent {
     start: u32,
     operands: u32,
     end: u32,
@@ -23,7 +30,7 @@ pub(crate) struct Span {
 /// What each position takes and shows: as a list, the operands and the stack of each live position, in the order of positions.
 #[derive(Drop)]
 pub(crate) struct Lists {
-    spans: Vec<Option<Span>>,
+    spans: Vec<Span>,
     places: Vec<Place>,
 }
 
@@ -33,32 +40,86 @@ impl Model for Lists {
 
     ghost Value = { List (Option Listed) };
 
-    ghost use Rattle.stack_names.specs.Spans.{lists_of, AreWithin};
+    ghost use Rattle.stack_names.specs.Spans.{lists_of, extents, AreLaid};
 
-    ghost view = { λ l. lists_of l.places.items l.spans.items };
+    ghost view = { λ l. lists_of l.places.items (extents 0 l.spans.items) };
 
-    ghost invariant = { λ l. AreWithin (length l.places.items) l.spans.items };
+    ghost invariant = { λ l. AreLaid (length l.places.items) l.spans.items };
 }
 
-/// The span of a position: none of a dead one, and where there is no such position.
-fn span_at(spans: &[Option<Span>], pos: usize) -> Option<Span>
-    ensures { result ≡ span_of (slice_get spans.now pos) }
+/// The span of a position, where there is such a position.
+#[inline]
+fn span_at(spans: &[Span], pos: usize) -> Option<Span>
+    ensures { result ≡ slice_get spans.now pos }
 {
-    match spans.get(pos) {
-        Some(span) => *span,
+    spans.get(pos).copied()
+}
+
+/// Where the span before a position ends.
+#[inline]
+fn start_at(spans: &[Span], pos: usize) -> u32
+    ensures { result ≡ start_in spans.now pos }
+{
+    if pos == 0 {
+        return 0;
+    }
+    match spans.get(pos - 1) {
+        Some(span) => span.end,
+        None => 0,
+    }
+}
+
+/// The extent that begins at `start` and ends with a span: none of a dead position.
+#[inline]
+fn extent_of(start: u32, span: Span) -> Option<Extent>
+    ensures { result ≡ extent_from start span }
+{
+    if span.end < span.operands {
+        return None;
+    }
+    Some(Extent {
+        start,
+        operands: span.operands,
+        end: span.end,
+    })
+}
+
+/// The extent of a position: none of a dead one, and where there is no such position.
+#[inline]
+fn extent_at(spans: &[Span], pos: usize) -> Option<Extent>
+    ensures { result ≡ extent_or (slice_get (extents 0 spans.now) pos) }
+{
+    match span_at(spans, pos) {
+        Some(span) => extent_of(start_at(spans, pos), span),
         None => None,
     }
 }
 
+/// A span more, and its places. Where memory is refused there is no span more, but there may be places.
+fn append(
+    spans: &mut Vec<Span>,
+    places: &mut Vec<Place>,
+    span: Span,
+    stack: &[Place],
+) -> Result<(), NoMemory>
+    ensures places { OnOk result (places.new.items ≡ places.old.items ++ stack.now) }
+    ensures spans { OnOk result (spans.new.items ≡ spans.old.items ++ span ∷ []) }
+    ensures longer { length places.old.items ≤ length places.new.items }
+    ensures same { OnErr result (spans.new.items ≡ spans.old.items) }
+{
+    push_all(places, stack)?;
+    push(spans, span)?;
+    Ok(())
+}
+
 impl Lists {
-    /// No position yet.
-    pub(crate) fn new(alloc: Global) -> Lists
-        ensures { result ≡ [] }
+    /// No position yet, with room asked for ahead for so many, which take a place each: what isn't used costs nothing, and lists that fit are never moved.
+    pub(crate) fn with_capacity(alloc: Global, positions: usize) -> Result<Lists, NoMemory>
+        ensures { IfOk result (λ lists. lists ≡ []) }
     {
-        Lists {
-            spans: Vec::new(alloc),
-            places: Vec::new(alloc),
-        }
+        let spans = Vec::with_capacity(alloc, positions).map_err(|_| NoMemory)?;
+        let places = Vec::with_capacity(alloc, positions).map_err(|_| NoMemory)?;
+        Ok(Lists { spans, places })
     }
 
     /// The number of positions.
@@ -68,11 +129,19 @@ impl Lists {
         self.spans.as_slice().len()
     }
 
-    /// A dead position more.
+    /// A dead position more. Over 2^32 places don't fit.
     pub(crate) fn add_dead(&mut self) -> Result<(), NoMemory>
         ensures { IfOk result (λ _. self.new ≡ self.old ++ None ∷ []) }
     {
-        push(&mut self.spans, None)?;
+        let end = self.places.as_slice().len();
+        if end >= u32::MAX as usize {
+            return Err(NoMemory);
+        }
+        let span = Span {
+            operands: u32::MAX,
+            end: end as u32,
+        };
+        push(&mut self.spans, span)?;
         Ok(())
     }
 
@@ -86,32 +155,37 @@ impl Lists {
         if end > u32::MAX as usize {
             return Err(NoMemory);
         }
-        push_all(&mut self.places, stack)?;
         let span = Span {
-            start: start as u32,
             operands: (start + from) as u32,
             end: end as u32,
         };
-        push(&mut self.spans, Some(span))?;
-        Ok(())
+        match append(&mut self.spans, &mut self.places, span, stack) {
+            Ok(()) => Ok(()),
+            Err(_) => {
+                self.places.truncate(start);
+                Err(NoMemory)
+            }
+        }
     }
 
     /// Whether a position is live.
+    #[inline]
     pub(crate) fn live(&self, pos: usize) -> bool
         ensures { result ≡ is_live_in self.now pos }
     {
-        span_at(self.spans.as_slice(), pos).is_some()
+        extent_at(self.spans.as_slice(), pos).is_some()
     }
 
     /// The operands of a position: none of a dead one.
+    #[inline]
     pub(crate) fn operands(&self, pos: usize) -> &[Place]
         ensures { result.now ≡ operands_in self.now pos }
     {
-        match span_at(self.spans.as_slice(), pos) {
-            Some(span) => part(
+        match extent_at(self.spans.as_slice(), pos) {
+            Some(extent) => part(
                 self.places.as_slice(),
-                span.operands as usize,
-                span.end as usize,
+                extent.operands as usize,
+                extent.end as usize,
             ),
             None => &[],
         }
@@ -121,11 +195,11 @@ impl Lists {
     pub(crate) fn stack(&self, pos: usize) -> &[Place]
         ensures { result.now ≡ stack_in self.now pos }
     {
-        match span_at(self.spans.as_slice(), pos) {
-            Some(span) => part(
+        match extent_at(self.spans.as_slice(), pos) {
+            Some(extent) => part(
                 self.places.as_slice(),
-                span.start as usize,
-                span.end as usize,
+                extent.start as usize,
+                extent.end as usize,
             ),
             None => &[],
         }

@@ -3,6 +3,7 @@
 ghost use Rattle.std.specs.Prelude.{◌≡◌, ◌≤◌, length, slice_range};
 
 /// The values from one number on to another.
+#[inline]
 pub(crate) fn part<T>(values: &[T], start: usize, end: usize) -> &[T]
     requires order { start ≤ end }
     requires within { end ≤ length values.now }

@@ -39,6 +39,7 @@ impl Names {
     }
 
     /// Whether a position is live: false too where there is no such position.
+    #[inline]
     pub fn live(&self, pos: Pos) -> bool
         ensures { result ≡ is_live_in self.now.positions pos.0 }
     {
@@ -46,6 +47,7 @@ impl Names {
     }
 
     /// All operands of a live instruction, the values that a branch carries among them, the deepest first; none of a dead one.
+    #[inline]
     pub fn operands(&self, pos: Pos) -> &[Place]
         ensures { result.now ≡ operands_in self.now.positions pos.0 }
     {
@@ -69,6 +71,7 @@ impl Names {
     }
 
     /// What takes the value that a node makes, in reading order: nothing where the node makes none.
+    #[inline]
     pub fn takers(&self, maker: Node) -> &[Taker]
         ensures { result.now ≡ of_node self.now.takers maker }
     {

@@ -1,6 +1,7 @@
 //! What a walk through a body has found.
 
 ghost use Rattle.std.specs.Prelude.{◌≡◌, ◌<◌, ◌^◌, ◌++◌, [], IfOk, length};
+ghost use Rattle.wasm_types.specs.declared.place.Taker.TheVariants as variants;
 
 use crate::lists::Lists;
 use crate::place::Place;
@@ -18,17 +19,18 @@ pub(crate) struct Trail {
 }
 
 impl Trail {
-    ghost use Rattle.stack_names.specs.Found.{Adds, ending, found, joins_at, leaving, nothing, opening, taken_by, taking};
+    ghost use Rattle.stack_names.specs.Found.{Adds, ending, found, joins_at, leaving, noted, nothing, opening, taken_by, taking};
 
-    /// Nothing yet.
-    pub(crate) fn new(alloc: Global) -> Trail
-        ensures { found result ≡ nothing }
+    /// Nothing yet, with room asked for ahead for so many positions.
+    pub(crate) fn with_capacity(alloc: Global, positions: usize) -> Result<Trail, NoMemory>
+        ensures { IfOk result (λ trail. found trail ≡ nothing) }
     {
-        Trail {
-            lists: Lists::new(alloc),
+        let lists = Lists::with_capacity(alloc, positions)?;
+        Ok(Trail {
+            lists,
             takings: Vec::new(alloc),
             joinings: Vec::new(alloc),
-        }
+        })
     }
 
     /// The position that comes next.
@@ -49,6 +51,19 @@ impl Trail {
         while left > 0 {
             left -= 1;
             push(&mut self.takings, (values[left].maker, taker))?;
+        }
+        Ok(())
+    }
+
+    /// An instruction takes these values, the last one first: noted only where the takers of all kinds are.
+    fn note_instr(&mut self, full: bool, values: &[Place], pos: Pos) -> Result<(), NoMemory>
+        ensures lists { IfOk result (λ _. self.new.lists ≡ self.old.lists) }
+        ensures takings { IfOk result (λ _. self.new.takings.items ≡ self.old.takings.items ++ noted full (variants.Instr pos) values.now) }
+        ensures joinings { IfOk result (λ _. self.new.joinings.items ≡ self.old.joinings.items) }
+    {
+        if full {
+            self.note(values, Taker::Instr(pos))?;
+            return Ok(());
         }
         Ok(())
     }
@@ -76,25 +91,30 @@ impl Trail {
     }
 
     /// A position more, which takes the last so many places of the stack.
-    pub(crate) fn take(&mut self, stack: &[Place], count: usize) -> Result<(), NoMemory>
+    pub(crate) fn take(&mut self, full: bool, stack: &[Place], count: usize) -> Result<(), NoMemory>
         requires { length self.old.lists < 2 ^ 32 }
-        ensures { IfOk result (λ _. Adds self.old (taking (length self.old.lists) count stack.now []) self.new) }
+        ensures { IfOk result (λ _. Adds self.old (taking full (length self.old.lists) count stack.now []) self.new) }
     {
         let pos = self.here();
         let taken = top(stack, count);
         self.lists.add(taken, 0)?;
-        self.note(taken, Taker::Instr(pos))?;
+        self.note_instr(full, taken, pos)?;
         Ok(())
     }
 
     /// A position more, which takes the last so many places of the stack, and leaves all.
-    pub(crate) fn leave(&mut self, stack: &[Place], count: usize) -> Result<(), NoMemory>
+    pub(crate) fn leave(
+        &mut self,
+        full: bool,
+        stack: &[Place],
+        count: usize,
+    ) -> Result<(), NoMemory>
         requires { length self.old.lists < 2 ^ 32 }
-        ensures { IfOk result (λ _. Adds self.old (leaving (length self.old.lists) count stack.now []) self.new) }
+        ensures { IfOk result (λ _. Adds self.old (leaving full (length self.old.lists) count stack.now []) self.new) }
     {
         let pos = self.here();
         self.lists.add(stack, stack.len().saturating_sub(count))?;
-        self.note(top(stack, count), Taker::Instr(pos))?;
+        self.note_instr(full, top(stack, count), pos)?;
         Ok(())
     }
 
