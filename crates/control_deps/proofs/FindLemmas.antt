@@ -14,7 +14,7 @@ use Rattle.wasm_types.specs.Sites.{Site, Sites, IsSite, body_sites}
 use Rattle.control_deps.specs.declared.deciders.Nearest.{Nearest}
 use Rattle.control_deps.specs.declared.spot.Spot.{Spot}
 use Rattle.control_deps.specs.Chain.{live_at}
-use Rattle.control_deps.specs.Nearest.{around as directly, Finds, itself, onward}
+use Rattle.control_deps.specs.Nearest.{around as directly, Finds, itself, onward, Onward}
 use Rattle.control_deps.specs.Nest.{IsAround, IsNestOf}
 use Rattle.control_deps.proofs.FitLemmas.{fits_at, site_spot}
 use Rattle.control_deps.proofs.ShadowLemmas.{fit_of, live_has, spot_fits}
@@ -24,6 +24,16 @@ use Rattle.control_deps.proofs.EncloseLemmas.{spot_at, around_spot, inner_around
 pub finds_on : (c : Code) (near : Node → Nearest) (n m k : Node) → Finds c near n m → Finds c near m k → Finds c near n k
 finds_on c near n m k f itself = f
 finds_on c near n m k f (onward j g s) = onward j (finds_on c near n m j f g) s
+
+-- found by a step at least
+abbrev pub Steps : Code → (Node → Nearest) → Node → Node → Type 0
+Steps c near n m = (k : Node) × (Finds c near n k × Onward c near k m)
+
+pub steps_find : (c : Code) (near : Node → Nearest) (n k : Node) → Steps c near n k → Finds c near n k
+steps_find c near n k (m, (f, s)) = onward m f s
+
+pub steps_on : (c : Code) (near : Node → Nearest) (n m k : Node) → Finds c near n m → Steps c near m k → Steps c near n k
+steps_on c near n m k f (j, (g, s)) = (j, (finds_on c near n m j f g, s))
 
 module _ (body : Body) (nest : List Spot) (is : IsNestOf body nest) where
   -- what is around a live position is live
@@ -36,18 +46,19 @@ module _ (body : Body) (nest : List Spot) (is : IsNestOf body nest) where
     go_around q x b at some = onward (At q) itself (directly b (subst (IsAround (code_of body.code) q) some (is_around body nest q x is at)))
 
     -- from a position below f, what is around it
-    pub climb : (f k q : ℕ) (y x : Spot) → q < f → slice_get nest k ≡ Some y → k < q → q < y.stop → slice_get nest q ≡ Some x
-        → Finds (code_of body.code) near (At q) (At k)
-    climb zero k q y x lt at_k lo hi at = absurd (omega arith)
-    climb (suc f) k q y x lt at_k lo hi at =
+    pub climb_steps : (f k q : ℕ) (y x : Spot) → q < f → slice_get nest k ≡ Some y → k < q → q < y.stop → slice_get nest q ≡ Some x
+        → Steps (code_of body.code) near (At q) (At k)
+    climb_steps zero k q y x lt at_k lo hi at = absurd (omega arith)
+    climb_steps (suc f) k q y x lt at_k lo hi at =
         let c = code_of body.code in
         let a = inner_around body nest is k y q x at_k lo hi at in
         let b = around_spot body nest is q x a.0 at a.1.0 in
-        let step = go_around q x a.0 at a.1.0 in
+        let step : Steps c near (At q) (At a.0.0) =
+        (At q, (itself, directly a.0 (subst (IsAround c q) a.1.0 (is_around body nest q x is at)))) in
         ⊎_elim
-        (λ (eq : k ≡ a.0.0). subst (λ z. Finds c near (At q) (At z)) (sym eq) step)
-        (λ (ne : k ≢ a.0.0). finds_on c near (At q) (At a.0.0) (At k) step
-        (climb f k a.0.0 y b.spot (omega (arith, lt, b.before)) at_k (omega (arith, a.1.1, ne)) (omega (arith, b.before, hi)) b.at))
+        (λ (eq : k ≡ a.0.0). subst (λ z. Steps c near (At q) (At z)) (sym eq) step)
+        (λ (ne : k ≢ a.0.0). steps_on c near (At q) (At a.0.0) (At k) (steps_find c near (At q) (At a.0.0) step)
+        (climb_steps f k a.0.0 y b.spot (omega (arith, lt, b.before)) at_k (omega (arith, a.1.1, ne)) (omega (arith, b.before, hi)) b.at))
         (cases_eq k a.0.0)
 
 -- ---- by sites
@@ -59,7 +70,7 @@ holder_found body nest is cs t w near b q s there lo hi =
     let y = site_spot nest (slice_get nest b) (slice_get S b) s (fits_at nest nest S b (fit_of nest body cs t w is)) there in
     let past : q < y.0.stop = omega (arith, hi, y.1.1.stop) in
     let x = spot_at nest q (omega (arith, past, stop_within body nest is b y.0 y.1.0)) in
-    climb body nest is near (suc q) b q y.0 x.0 (omega arith) y.1.0 lo past x.1
+    steps_find (code_of body.code) near (At q) (At b) (climb_steps body nest is near (suc q) b q y.0 x.0 (omega arith) y.1.0 lo past x.1)
 
 pub around_once : (c : Code) (q : ℕ) (o : Option Pos) (b : Pos) → IsAround c q o → IsAround c q (Some b) → o ≡ Some b
 around_once c q None b none a = absurd (none b.0 a.0)

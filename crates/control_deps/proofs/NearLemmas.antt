@@ -1,6 +1,6 @@
 -- All deciders of a node are found from its nearest ones.
-use Rattle.std.proofs.Common.{◌≡◌, ◌≢◌, ℕ, zero, suc, ◌+◌, ◌≤◌, ◌<◌, ⊎_elim, Bool, true, false, true≢false, if◌then◌else◌, List, [], ◌∷◌, Option, Some}
-use Rattle.std.proofs.Common.{None, IfSome, length, refl, sym, ap, ◌∙◌, subst, arith}
+use Rattle.std.proofs.Common.{◌≡◌, ◌≢◌, ℕ, zero, suc, ◌+◌, ◌≤◌, ◌<◌, Bool, true, false, true≢false, if◌then◌else◌, List, [], ◌∷◌, Option, Some}
+use Rattle.std.proofs.Common.{inl, inr, ⊎_elim, None, IfSome, length, refl, sym, ap, ◌∙◌, subst, arith}
 use Rattle.std.specs.List.{AllZip, slice_get}
 use Rattle.std.proofs.lemmas.Bool.{cases_eq, cases_lt}
 use Rattle.std.proofs.lemmas.Option.{none-some, same_Some, slice_get_within}
@@ -23,13 +23,25 @@ use Rattle.control_deps.specs.declared.spot.Spot.{Spot}
 use Rattle.control_deps.specs.Chain.{is_loop, live_at, IsChain}
 use Rattle.control_deps.specs.Leaving.{number, Passes, here, outward, Leaves, IsLast, exit_of, AreExits, loops_at, loop_around, row_of, AreRows}
 use Rattle.control_deps.specs.Nearest.{earlier, latest, own_join, Finds, itself, onward, AreNearestAt, AreNearest, Table, latest_in, nearest_of_row}
-use Rattle.control_deps.specs.Nearest.{nearest_in}
+use Rattle.control_deps.specs.Nearest.{nearest_in, IsNearest, IsIf, FoundFrom}
 use Rattle.control_deps.specs.Nest.{IsNestOf}
 use Rattle.control_deps.proofs.FitLemmas.{IsFit, fits_at, site_spot, form_of_head, within_inside}
 use Rattle.control_deps.proofs.ShadowLemmas.{furthest, is_branch, branch_form, stops_rise, live_has, spot_fits, fit_of}
 use Rattle.control_deps.proofs.EncloseLemmas.{spot_at, around_spot, inner_around}
-use Rattle.control_deps.proofs.FindLemmas.{finds_on, live_around, go_around, climb}
+use Rattle.control_deps.proofs.FindLemmas.{Steps, finds_on, steps_on, live_around, go_around, climb_steps}
 use Rattle.control_deps.proofs.LeaveLemmas.{number_once}
+
+-- ---- what is found by a nearest decider at the end
+
+abbrev ByNearest : Code → (Node → Nearest) → Node → ℕ → Type 0
+ByNearest c near n p = (k : Node) × (Finds c near n k × IsNearest (near k) p)
+
+nearest_find : (c : Code) (near : Node → Nearest) (n : Node) (p : ℕ) → ByNearest c near n p → Finds c near n (At p)
+nearest_find c near n p (k, (f, inl e)) = onward k f (earlier (record { 0 = p }) e)
+nearest_find c near n p (k, (f, inr e)) = onward k f (latest (record { 0 = p }) e)
+
+nearest_on : (c : Code) (near : Node → Nearest) (n m : Node) (p : ℕ) → Finds c near n m → ByNearest c near m p → ByNearest c near n p
+nearest_on c near n m p f (k, (g, e)) = (k, (finds_on c near n m k f g, e))
 
 -- ---- labels
 
@@ -335,23 +347,23 @@ module _ (body : Body) (nest : List Spot) (is : IsNestOf body nest) where
       abbrev Backs : ℕ → Type 0
       Backs f =
           (p q e : ℕ) (one : Option Pos) (x : Spot) → q < f → Leaves nest one p → EndsAt nest one e → p < q → q < e → slice_get nest q ≡ Some x → x.live ≡
-          true → Finds code near (At q) (At p)
+          true → ByNearest code near (At q) p
 
       back_more : (f : ℕ) → Backs f → Backs (suc f)
       back_more f before p q e one x lt l end lo hi at live = go x.around refl
         where
-          found : Leaves nest x.around p → Finds code near (At q) (At p)
+          found : Leaves nest x.around p → ByNearest code near (At q) p
           found k =
               let h = earlier_is q p x at live k lo in
-              let step : Finds code near (At q) (At h.last.0) = onward (At q) itself (earlier h.last h.is) in
+              let step : ByNearest code near (At q) h.last.0 = (At q, (itself, inl h.is)) in
               ⊎_elim
-              (λ (eq : p ≡ h.last.0). subst (λ z. Finds code near (At q) (At z)) (sym eq) step)
-              (λ (ne : p ≢ h.last.0). finds_on code near (At q) (At h.last.0) (At p) step
+              (λ (eq : p ≡ h.last.0). subst (λ z. ByNearest code near (At q) z) (sym eq) step)
+              (λ (ne : p ≢ h.last.0). nearest_on code near (At q) (At h.last.0) p (nearest_find code near (At q) h.last.0 step)
               (before p h.last.0 e one h.has.spot (omega (arith, lt, h.below)) l end (omega (arith, h.most, ne)) (omega (arith, h.below, hi)) h.has.at
               h.has.live))
               (cases_eq p h.last.0)
 
-          go : (o : Option Pos) → x.around ≡ o → Finds code near (At q) (At p)
+          go : (o : Option Pos) → x.around ≡ o → ByNearest code near (At q) p
           go None none = found (leaves_none one p q e x l end lo hi at none)
           go (Some b) some =
               let a = around_spot body nest is q x b at some in
@@ -361,7 +373,7 @@ module _ (body : Body) (nest : List Spot) (is : IsNestOf body nest) where
               (λ (eq : p ≡ b.0).
               let same : l.spot ≡ a.spot = same_Some l.spot a.spot (sym l.at ∙ ap (slice_get nest) eq ∙ a.at) in
               absurd (a.holds (ap (λ (z : Spot). is_branch z.form) (sym same) ∙ ap is_branch l.branches)))
-              (λ (ne : p ≢ b.0). finds_on code near (At q) (At b.0) (At p) (go_around body nest is near q x b at some)
+              (λ (ne : p ≢ b.0). nearest_on code near (At q) (At b.0) p (go_around body nest is near q x b at some)
               (before p b.0 e one a.spot (omega (arith, lt, a.before)) l end (omega (arith, le, ne)) (omega (arith, a.before, hi)) a.at
               (live_around body nest is q x b a.spot at live some a.at)))
               (cases_eq p b.0))
@@ -373,21 +385,21 @@ module _ (body : Body) (nest : List Spot) (is : IsNestOf body nest) where
 
       -- each branch that leaves one is found from where the last is told
       from_last : (n : Node) (one : Option Pos) (p : ℕ) → Leaves nest one p → IfSome one (λ (b : Pos). b.0 < length nest) → (near n).latest ≡ exit_of exits one
-          → Finds code near n (At p)
+          → ByNearest code near n p
       from_last n one p l within told =
           let h = last_some (Leaves nest one) (length nest) (exit_of exits one) p (has_exits.is one within) (slice_get_within nest p l.spot l.at) l in
-          let step : Finds code near n (At h.last.0) = onward n itself (latest h.last (told ∙ h.is)) in
+          let step : ByNearest code near n h.last.0 = (n, (itself, inr (told ∙ h.is))) in
           let end = ends one h.last.0 h.has in
           ⊎_elim
-          (λ (eq : p ≡ h.last.0). subst (λ z. Finds code near n (At z)) (sym eq) step)
-          (λ (ne : p ≢ h.last.0). finds_on code near n (At h.last.0) (At p) step
+          (λ (eq : p ≡ h.last.0). subst (λ z. ByNearest code near n z) (sym eq) step)
+          (λ (ne : p ≢ h.last.0). nearest_on code near n (At h.last.0) p (nearest_find code near n h.last.0 step)
           (back (suc h.last.0) p h.last.0 end.0 one h.has.spot (omega arith) l end.1.0 (omega (arith, h.most, ne)) end.1.1 h.has.at h.has.live))
           (cases_eq p h.last.0)
 
       -- each branch that leaves a loop is found from what is in the loop
       in_loop : (f p q : ℕ) (b : Pos) (y x : Spot) → q < f → slice_get nest b.0 ≡ Some y → is_loop y.form ≡ true → Leaves nest (Some b) p → b.0 < q
           → q < y.stop
-          → slice_get nest q ≡ Some x → x.live ≡ true → Finds code near (At q) (At p)
+          → slice_get nest q ≡ Some x → x.live ≡ true → ByNearest code near (At q) p
       in_loop zero p q b y x lt at_b loop l lo hi at live = absurd (omega arith)
       in_loop (suc f) p q b y x lt at_b loop l lo hi at live =
           let a = inner_around body nest is b.0 y q x at_b lo hi at in
@@ -396,7 +408,7 @@ module _ (body : Body) (nest : List Spot) (is : IsNestOf body nest) where
           (λ (eq : b.0 ≡ a.0.0).
           let same : a.0 ≡ b = same_Some a.0 b (number_once (Some a.0) (Some b) (omega (arith, eq))) in
           from_last (At q) (Some b) p l (slice_get_within nest b.0 y at_b) (latest_is q x b y at live (a.1.0 ∙ ap (λ (z : Pos). Some z) same) at_b loop))
-          (λ (ne : b.0 ≢ a.0.0). finds_on code near (At q) (At a.0.0) (At p) (go_around body nest is near q x a.0 at a.1.0)
+          (λ (ne : b.0 ≢ a.0.0). nearest_on code near (At q) (At a.0.0) p (go_around body nest is near q x a.0 at a.1.0)
           (in_loop f p a.0.0 b y c.spot (omega (arith, lt, c.before)) at_b loop l (omega (arith, a.1.1, ne)) (omega (arith, c.before, hi)) c.at
           (live_around body nest is q x a.0 c.spot at live a.1.0 c.at)))
           (cases_eq b.0 a.0.0)
@@ -425,35 +437,49 @@ module _ (body : Body) (nest : List Spot) (is : IsNestOf body nest) where
       latest_of None = refl
       latest_of (Some b) = refl
 
-      all : (p : ℕ) (n : Node) → InShadow S p n → Finds code near n (At p)
-      all p n (arms kind s there h i) =
+      -- by a nearest decider at the end
+      by_nearest : (n : Node) (p : ℕ) → ByNearest code near n p → FoundFrom S code near n p
+      by_nearest n p (k, (f, e)) = record { last = k; finds = f; step = inl e }
+
+      -- from what an if holds
+      by_if : (n : Node) (p : ℕ) → IsIf S p → Steps code near n (At p) → FoundFrom S code near n p
+      by_if n p is (k, (f, on)) = record { last = k; finds = f; step = inr (on, is) }
+
+      found : (p : ℕ) (n : Node) → InShadow S p n → FoundFrom S code near n p
+      found p n (arms kind s there h i) =
           let x = site_spot nest (slice_get nest p) (slice_get S p) s (fits_at nest nest S p fit) there in
           let t = stands (p + 1) s.stop n i in
-          finds_on code near n (At t.pos) (At p) t.finds (climb body nest is near (suc t.pos) p t.pos x.0 t.spot (omega arith) x.1.0 (omega (arith, t.low))
-          (omega (arith, t.high, x.1.1.stop)) t.at)
-      all p n (if_join kind s there h) = onward (Join p) itself own_join
-      all p n (later l s there br i) =
+          by_if n p (kind, (s, (there, h))) (steps_on code near n (At t.pos) (At p) t.finds (climb_steps body nest is near (suc t.pos) p t.pos x.0 t.spot
+          (omega arith) x.1.0 (omega (arith, t.low)) (omega (arith, t.high, x.1.1.stop)) t.at))
+      found p n (if_join kind s there h) = by_if n p (kind, (s, (there, h))) (Join p, (itself, own_join))
+      found p n (later l s there br i) =
           let k = left_by p l l s there br (omega arith) in
           let t = stands (p + 1) (stop_of s.around l) n i in
-          finds_on code near n (At t.pos) (At p) t.finds
+          by_nearest n p (nearest_on code near n (At t.pos) p t.finds
           (back (suc t.pos) p t.pos (stop_of s.around l) k.one t.spot (omega arith) k.leaves (label_end nest s.around l k.one k.of) (omega (arith, t.low))
-          t.high t.at t.live)
-      all p n (around l j s there br le) =
+          t.high t.at t.live))
+      found p n (around l j s there br le) =
           let k = left_by p l j s there br le in
-          subst (λ z. Finds code near z (At p)) (sym (label_join nest s.around j k.one k.of))
-          (from_last (node_of k.one) k.one p k.leaves (label_within nest s.around j k.one k.of) (latest_of k.one))
-      all p n (looping l j s there br le lp i) =
+          by_nearest n p (subst (λ z. ByNearest code near z p) (sym (label_join nest s.around j k.one k.of))
+          (from_last (node_of k.one) k.one p k.leaves (label_within nest s.around j k.one k.of) (latest_of k.one)))
+      found p n (looping l j s there br le lp i) =
           let k = left_by p l j s there br le in
           let t = stands (start_of s.around j) (stop_of s.around j) n i in
-          finds_on code near n (At t.pos) (At p) t.finds (go k.one k.leaves k.of t.pos t.spot t.at t.live t.low t.high)
+          by_nearest n p (nearest_on code near n (At t.pos) p t.finds (go k.one k.leaves k.of t.pos t.spot t.at t.live t.low t.high))
         where
           go : (one : Option Pos) → Leaves nest one p → IsLabelOf nest s.around j one → (q : ℕ) (x : Spot) → slice_get nest q ≡ Some x → x.live ≡ true
               → start_of s.around j ≤ q → q < stop_of s.around j
-              → Finds code near (At q) (At p)
+              → ByNearest code near (At q) p
           go None leaves of q x at live lo hi = absurd (true≢false (sym lp ∙ of.1.0))
           go (Some b) leaves of q x at live lo hi =
               in_loop (suc q) p q b of.0 x (omega arith) of.1.0 (sym of.1.1.1.0 ∙ lp) leaves (omega (arith, lo, of.1.1.1.1.0))
               (omega (arith, hi, of.1.1.1.1.1)) at live
+
+      found_finds : (n : Node) (p : ℕ) → FoundFrom S code near n p → Finds code near n (At p)
+      found_finds n p f = ⊎_elim
+          (λ near'. ⊎_elim (λ e. onward f.last f.finds (earlier (record { 0 = p }) e)) (λ e. onward f.last f.finds (latest (record { 0 = p }) e)) near')
+          (λ (on, arm). onward f.last f.finds on)
+          f.step
 
       -- ---- each nearest decider has the node in its shadow
 
@@ -529,7 +555,7 @@ module _ (body : Body) (nest : List Spot) (is : IsNestOf body nest) where
       latest_right node.Exit p told = end_shadow None p tt told
 
       pub are_nearest : AreNearestAt S (code_of body.code) (nearest_in (record { rows = rows; exits = exits }))
-      are_nearest = record { earlier = earlier_right; latest = latest_right; all = all }
+      are_nearest = record { earlier = earlier_right; latest = latest_right; all = λ p n h. found_finds n p (found p n h); found = found }
 
 -- ---- of each body
 

@@ -1,6 +1,7 @@
 -- The nearest deciders of the nodes of a body, from which all others are found.
-use Rattle.std.specs.Prelude.{◌≡◌, ℕ, Bool, List, Option, Some, None, slice_get}
+use Rattle.std.specs.Prelude.{◌≡◌, ◌⊎◌, ℕ, Bool, List, Option, Some, None, slice_get}
 use Rattle.wasm_types.specs.declared.module.Body.{Body}
+use Rattle.wasm_types.specs.declared.module.ValType.{ValType}
 use Rattle.wasm_types.specs.declared.module.Pos.{Pos}
 use Rattle.wasm_types.specs.declared.place.Node.{Node}
 use Rattle.wasm_types.specs.declared.place.Node.TheVariants as node
@@ -9,7 +10,7 @@ use Rattle.wasm_types.specs.Code.{Code, code_of}
 use Rattle.wasm_types.specs.Marked.{marked}
 use Rattle.wasm_types.specs.Nodes.{At, Join}
 use Rattle.wasm_types.specs.Shadow.{InShadow}
-use Rattle.wasm_types.specs.Sites.{Sites, body_sites}
+use Rattle.wasm_types.specs.Sites.{IfHead, IsSite, Site, Sites, body_sites}
 use Rattle.control_deps.specs.declared.spot.Spot.{Spot}
 use Rattle.control_deps.specs.declared.deciders.Nearest.{Nearest}
 use Rattle.control_deps.specs.declared.deciders.Row.{Row}
@@ -28,11 +29,27 @@ pub data Finds (c : Code) (near : Node → Nearest) (n : Node) : Node → Type 0
   itself : Finds c near n n
   onward : {k : Node} (m : Node) → Finds c near n m → Onward c near m k → Finds c near n k
 
--- each nearest decider has the node in its shadow, and whatever has the node in its shadow is found from the node
+-- p is a nearest decider
+abbrev pub IsNearest : Nearest → ℕ → Type 0
+IsNearest near p = (near.earlier ≡ Some (record { 0 = p })) ⊎ (near.latest ≡ Some (record { 0 = p }))
+
+-- a live if stands at p
+abbrev pub IsIf : Sites → ℕ → Type 0
+IsIf S p = (kind : Option ValType) × ((s : Site) × (IsSite S p s × (s.head ≡ IfHead kind)))
+
+-- The last step of a search from n that finds p as what decides about n: to a nearest decider, or on from what an if holds, or is the end of.
+pub record FoundFrom (S : Sites) (c : Code) (near : Node → Nearest) (n : Node) (p : ℕ) : Type 0 where
+  pub last : Node
+  pub finds : Finds c near n last
+  pub step : IsNearest (near last) p ⊎ (Onward c near last (At p) × IsIf S p)
+
+-- Each nearest decider has the node in its shadow, and whatever has the node in its shadow is found from the node, in a step at least: a branch back to a loop
+-- around it has itself in its shadow.
 pub record AreNearestAt (S : Sites) (c : Code) (near : Node → Nearest) : Type 0 where
   pub earlier : (n : Node) (p : Pos) → (near n).earlier ≡ Some p → InShadow S p.0 n
   pub latest : (n : Node) (p : Pos) → (near n).latest ≡ Some p → InShadow S p.0 n
   pub all : (p : ℕ) (n : Node) → InShadow S p n → Finds c near n (At p)
+  pub found : (p : ℕ) (n : Node) → InShadow S p n → FoundFrom S c near n p
 
 -- a row for each position, and for the body, and each block, loop or if, the last branch that leaves it
 pub record Table : Type 0 where
