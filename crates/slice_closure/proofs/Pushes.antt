@@ -1,13 +1,15 @@
 -- What a list gains, by items.
-use Rattle.std.proofs.Common.{◌≡◌, ℕ, ◌+◌, ◌<◌, ◌≤◌, List, [], ◌∷◌, ◌++◌, length, get_or, take, Bool, true, false, ◌↔◌, Some, None, refl, sym, ap, ◌∙◌, subst, inl, inr, ◌⊎◌, ⊎_elim, arith}
+use Rattle.std.proofs.Common.{◌≡◌, ℕ, zero, suc, ◌+◌, ◌<◌, ◌≤◌, List, [], ◌∷◌, ◌++◌, length, get_or, take, Bool, true, false, ◌↔◌, Some, None, refl, sym, ap, ◌∙◌, subst, inl, inr, ◌⊎◌, ⊎_elim, arith}
+use Rattle.std.specs.Prelude.{slice_get}
 use Rattle.std.specs.List.{All, Contains}
 use Rattle.std.proofs.lemmas.List.{take_all, take_more}
 use Rattle.std.proofs.lemmas.List.Elements.{All-contains_itself, Contains-push, Contains-push_cases, Contains-append_left}
-use Rattle.std.proofs.lemmas.Bool.{cases_eq}
+use Rattle.std.proofs.lemmas.Bool.{cases_eq, cases_lt}
 use Rattle.std.proofs.lemmas.Grind.{not_there}
 use Rattle.wasm_types.specs.declared.module.Pos.{Pos}
 use Rattle.wasm_types.specs.declared.module.Body.{Body}
 use Rattle.wasm_types.specs.declared.place.Loc.{Loc}
+use Rattle.wasm_types.specs.declared.place.Loc.TheVariants.{Mem, Size}
 use Rattle.wasm_types.specs.declared.place.Node.{Node}
 use Rattle.wasm_types.specs.declared.place.Node.TheVariants as node
 use Rattle.wasm_types.specs.Nodes.{At}
@@ -19,13 +21,11 @@ use Rattle.slice_closure.specs.declared.tables.Tables.{Tables}
 use Rattle.worklist.specs.Gains.{Gains}
 use Rattle.worklist.proofs.Pushing.{gains_none, gains_push, gains_same, gains_then}
 use Rattle.slice_closure.specs.declared.items.Item.{Item}
-use Rattle.wasm_types.specs.declared.place.Loc.TheVariants.{Mem, Size}
-use Rattle.flow_domain.specs.declared.loc_table.LocUse.{LocUse}
-use Rattle.flow_domain.specs.LocRows.{reading, changing}
+use Rattle.slice_closure.specs.declared.spot.Spot.{Spot}
 use Rattle.slice_closure.specs.declared.spot.Touch.{Touch}
 use Rattle.slice_closure.specs.declared.spot.Touch.TheVariants as touch
 use Rattle.slice_closure.specs.declared.spot.Came.TheVariants.{After}
-use Rattle.slice_closure.specs.Flow.{uses_in, ways_to}
+use Rattle.slice_closure.specs.Flow.{AsksBelow, touch_at, ways_to}
 use Rattle.slice_closure.specs.Items.{loc_number, item_number, Numbered}
 use Rattle.slice_closure.specs.Next.{FromEach, Asks, Arrives, Passes, Fits, IsHolder}
 
@@ -118,20 +118,48 @@ exit_apart n is p e = cc
 
 -- ---- what is read or checked has a number
 
-abbrev pub TouchFits : ℕ → Touch → Type 0
-TouchFits L t = All (λ (u : LocUse). loc_number u.loc < L) (uses_in t)
+pub reads_fit : (L : ℕ) (t : Touch) (x : Loc) → AsksBelow L t → t ≡ touch.Reads x → loc_number x < L
+reads_fit L t x fits is = subst (AsksBelow L) is fits 0 x (omega arith)
 
-pub reads_fit : (L : ℕ) (t : Touch) (x : Loc) → TouchFits L t → t ≡ touch.Reads x → loc_number x < L
-reads_fit L t x fits is = subst (λ z. TouchFits L z) is fits 0 (reading x) (omega arith)
+pub changes_fit : (L : ℕ) (t : Touch) (x : Loc) → AsksBelow L t → t ≡ touch.Changes x → loc_number x < L
+changes_fit L t x fits is = subst (AsksBelow L) is fits 0 x (omega arith)
 
-pub changes_fit : (L : ℕ) (t : Touch) (x : Loc) → TouchFits L t → t ≡ touch.Changes x → loc_number x < L
-changes_fit L t x fits is = subst (λ z. TouchFits L z) is fits 0 (changing x) (omega arith)
+pub loads_fit : (L : ℕ) (t : Touch) → AsksBelow L t → t ≡ touch.Loads → 2 ≤ L
+loads_fit L t fits is = let lt : loc_number Size < L = subst (AsksBelow L) is fits 1 Mem (omega arith) in omega arith
 
-pub loads_fit : (L : ℕ) (t : Touch) → TouchFits L t → t ≡ touch.Loads → 2 ≤ L
-loads_fit L t fits is = let lt : loc_number Size < L = subst (λ z. TouchFits L z) is fits 1 (reading Mem) (omega arith) in omega arith
+pub stores_fit : (L : ℕ) (t : Touch) → AsksBelow L t → t ≡ touch.Stores → 2 ≤ L
+stores_fit L t fits is = let lt : loc_number Size < L = subst (AsksBelow L) is fits 1 Mem (omega arith) in omega arith
 
-pub stores_fit : (L : ℕ) (t : Touch) → TouchFits L t → t ≡ touch.Stores → 2 ≤ L
-stores_fit L t fits is = let lt : loc_number Size < L = subst (λ z. TouchFits L z) is fits 1 (reading Mem) (omega arith) in omega arith
+asks_more : (b c : ℕ) (t : Touch) → b ≤ c → AsksBelow b t → AsksBelow c t
+asks_more b c t le h k d lt = let below = h k d lt in omega arith
+
+touch_read : (spots : List Spot) (i : ℕ) (d : Spot) → i < length spots → touch_at (slice_get spots i) ≡ (get_or spots i d).touch
+touch_read [] i d lt = absurd (omega arith)
+touch_read (s ∷ spots) zero d lt = refl
+touch_read (s ∷ spots) (suc i) d lt = touch_read spots i d (omega arith)
+
+touch_past : (spots : List Spot) (i : ℕ) → length spots ≤ i → touch_at (slice_get spots i) ≡ touch.Nothing
+touch_past [] i le = refl
+touch_past (s ∷ spots) zero le = absurd (omega arith)
+touch_past (s ∷ spots) (suc i) le = touch_past spots i (omega arith)
+
+-- a bound of those so far, and of one more
+pub asks_step : (spots : List Spot) (i : ℕ) (d : Spot) (b c n : ℕ) → i < length spots → b ≤ n → c ≤ n → AsksBelow c (get_or spots i d).touch
+    → ((p : ℕ) → p < i → AsksBelow b (touch_at (slice_get spots p))) → (p : ℕ) → p < i + 1 → AsksBelow n (touch_at (slice_get spots p))
+asks_step spots i d b c n lt le le' here so_far p less = elim (cases_lt p i) [
+  | inl before ↦ asks_more b n (touch_at (slice_get spots p)) le (so_far p before)
+  | inr at ↦
+      let e : i ≡ p = omega arith in
+      subst (λ k. AsksBelow n (touch_at (slice_get spots k))) e (asks_more c n (touch_at (slice_get spots i)) le'
+      (subst (AsksBelow c) (sym (touch_read spots i d lt)) here))
+]
+
+pub asks_all : (spots whole : List Spot) (i b : ℕ) → length spots ≤ i → spots ≡ whole → ((p : ℕ) → p < i → AsksBelow b (touch_at (slice_get spots p)))
+    → (p : ℕ) → AsksBelow b (touch_at (slice_get whole p))
+asks_all spots whole i b le same so_far p = subst (λ zs. AsksBelow b (touch_at (slice_get zs p))) same (elim (cases_lt p i) [
+  | inl before ↦ so_far p before
+  | inr past ↦ subst (AsksBelow b) (sym (touch_past spots p (omega arith))) (λ k d lt. absurd (omega arith))
+])
 
 -- what is asked for, where the touch is known
 pub asked_same : (N : ℕ) (t u : Touch) (p : ℕ) (xs ys : List ℕ) → t ≡ u → Gains (Numbered N (Asks u p)) xs ys → Gains (Numbered N (Asks t p)) xs ys

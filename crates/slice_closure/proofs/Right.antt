@@ -33,7 +33,6 @@ use Rattle.stack_names.specs.declared.place.Place.{Place}
 use Rattle.stack_names.specs.Named.{Named, AreNames, is_listed, is_live_in, operands_in, of_node, listed, listed_all, code_in, sites_in}
 use Rattle.control_deps.specs.Nearest.{nearest_in}
 use Rattle.control_deps.proofs.FindLemmas.{holder_found, around_site}
-use Rattle.flow_domain.specs.declared.loc_table.LocUse.{LocUse}
 use Rattle.flow_domain.specs.Heights.{Shaped}
 use Rattle.flow_domain.specs.LocRows.{rows_of}
 use Rattle.flow_domain.proofs.LocLemmas.{plain_table}
@@ -45,11 +44,10 @@ use Rattle.worklist.specs.Reached.{Reached}
 use Rattle.slice_closure.specs.declared.tables.Tables.{Tables}
 use Rattle.slice_closure.specs.declared.spot.Came.TheVariants.{First, After}
 use Rattle.slice_closure.specs.Takens.{taken_at}
-use Rattle.slice_closure.specs.Flow.{uses_in, touch_at, came_to}
+use Rattle.slice_closure.specs.Flow.{AsksBelow, touch_at, came_to}
 use Rattle.slice_closure.proofs.Coming.{Told, told_led, led_told}
 use Rattle.slice_closure.proofs.Spots.{uses_at_spot, taken_at_spot}
 use Rattle.slice_closure.specs.declared.items.Item.TheVariants.{Keeps}
-use Rattle.slice_closure.specs.Items.{loc_number}
 use Rattle.slice_closure.specs.Next.{spot_in, IsBefore, First as Begins, Next, Fits}
 use Rattle.slice_closure.specs.Made.{AreMade}
 use Rattle.slice_closure.proofs.Joined.{Comes, joined_comes}
@@ -174,7 +172,7 @@ module _ (m : Module) (f : ℕ) (at : Pos) (t : Tables) (made : AreMade m f at t
   pub at_below : (N : ℕ) → N ≡ 2 * count (code_of body.code) + 1 → number (At at.0) < N
   at_below N e = below N e (At at.0) here
 
-  pub tables_fit : (N L : ℕ) → N ≡ 2 * count (code_of body.code) + 1 → ((p : ℕ) → All (λ (u : LocUse). loc_number u.loc < L) (uses_in (touch_at (spot_in t p))))
+  pub tables_fit : (N L : ℕ) → N ≡ 2 * count (code_of body.code) + 1 → ((p : ℕ) → AsksBelow L (touch_at (spot_in t p)))
       → Fits N L t
   tables_fit N L e uses = record {
     operands = λ p. all_from (λ (place : Place). number place.maker < N) (operands_in t.names.now.positions p) (λ place has.

@@ -1,7 +1,7 @@
 -- What one walk over a body finds: what each position touches and takes, and what leads to each point (docs/ANALYSES.md, "Locations", "Points").
-use Rattle.std.specs.Prelude.{◌≡◌, ◌↔◌, ℕ, ◌+◌, List, [], ◌∷◌, ◌++◌, Vec, Option, Some, None, length, map, slice_get, if◌then◌else◌}
+use Rattle.std.specs.Prelude.{◌≡◌, ◌↔◌, ℕ, ◌+◌, ◌<◌, List, [], ◌∷◌, ◌++◌, Vec, Option, Some, None, length, map, slice_get, if◌then◌else◌}
 use Rattle.std.specs.Global.{Global}
-use Rattle.std.specs.List.{Contains}
+use Rattle.std.specs.List.{All, Contains}
 use Rattle.wasm_types.specs.declared.instr.Instr.{Instr}
 use Rattle.wasm_types.specs.declared.instr.Instr as instr
 use Rattle.wasm_types.specs.declared.place.Loc.{Loc}
@@ -19,11 +19,12 @@ use Rattle.flow_domain.specs.LocRows.{reading, checking, writing, changing}
 use Rattle.slice_closure.specs.declared.spot.Touch.{Touch}
 use Rattle.slice_closure.specs.declared.spot.Touch.TheVariants as touch
 use Rattle.slice_closure.specs.declared.spot.Taken.{Taken}
-use Rattle.slice_closure.specs.declared.spot.Taken.TheVariants.{All}
+use Rattle.slice_closure.specs.declared.spot.Taken.TheVariants as taken
 use Rattle.slice_closure.specs.declared.spot.Came.{Came}
 use Rattle.slice_closure.specs.declared.spot.Came.TheVariants.{Never, First, After}
 use Rattle.slice_closure.specs.declared.spot.Spot.{Spot}
 use Rattle.slice_closure.specs.declared.walk.Trail.{Trail}
+use Rattle.slice_closure.specs.Items.{loc_number}
 use Rattle.slice_closure.specs.Takens.{taken_by}
 
 -- ---- locations
@@ -36,6 +37,17 @@ uses_in (touch.Writes x) = writing x ∷ []
 uses_in (touch.Changes x) = changing x ∷ []
 uses_in touch.Loads = reading loc.Mem ∷ checking loc.Size ∷ []
 uses_in touch.Stores = changing loc.Mem ∷ checking loc.Size ∷ []
+
+-- the locations that it reads or checks, and that their numbers are below a bound
+abbrev pub asked_in : Touch → List Loc
+asked_in (touch.Reads x) = x ∷ []
+asked_in (touch.Changes x) = x ∷ []
+asked_in touch.Loads = loc.Mem ∷ loc.Size ∷ []
+asked_in touch.Stores = loc.Mem ∷ loc.Size ∷ []
+asked_in _ = []
+
+abbrev pub AsksBelow : ℕ → Touch → Type 0
+AsksBelow bound t = All (λ x. loc_number x < bound) (asked_in t)
 
 abbrev pub written_by : Touch → Option Loc
 written_by (touch.Writes x) = Some x
@@ -87,7 +99,7 @@ came_at came (branch kind x y rest) p = came_at (through came (Join p)) rest (p 
 -- ---- positions
 
 abbrev pub holder : Came → Spot
-holder came = record { came = came; touch = touch.Nothing; taken = All }
+holder came = record { came = came; touch = touch.Nothing; taken = taken.All }
 
 abbrev pub spots_in : Came → Code → ℕ → List Spot
 spots_in came done p = []

@@ -15,16 +15,14 @@ use Rattle.stack_names.specs.declared.place.Place.{Place}
 use Rattle.stack_names.specs.Named.{operands_in, of_node}
 use Rattle.control_deps.specs.Nest.{IsAround, IsNestOf}
 use Rattle.control_deps.specs.Nearest.{nearest_in}
-use Rattle.flow_domain.specs.declared.loc_table.LocUse.{LocUse}
 use Rattle.slice_closure.specs.declared.spot.Came.TheVariants.{After}
 use Rattle.slice_closure.specs.declared.spot.Spot.{Spot}
 use Rattle.slice_closure.specs.declared.spot.Touch.{Touch}
 use Rattle.slice_closure.specs.declared.spot.Touch.TheVariants as touch
 use Rattle.slice_closure.specs.declared.tables.Tables.{Tables}
-use Rattle.slice_closure.specs.Flow.{uses_in, written_by, touch_at, taken_is, came_to, ways_to}
+use Rattle.slice_closure.specs.Flow.{AsksBelow, written_by, touch_at, taken_is, came_to, ways_to}
 use Rattle.slice_closure.specs.declared.items.Item.{Item}
 use Rattle.slice_closure.specs.declared.items.Item.TheVariants.{Keeps, Needs}
-use Rattle.slice_closure.specs.Items.{loc_number}
 use Rattle.slice_closure.specs.Takens.{of_taken}
 
 -- one of the elements leads there
@@ -107,7 +105,7 @@ pub record Fits (N L : ℕ) (t : Tables) : Type 0 where
   pub operands : (p : ℕ) → All (λ (place : Place). number place.maker < N) (operands_in t.names.now.positions p)
   pub joined : (n : Node) → All (λ (m : Node). number m < N) (of_node t.names.now.joined n)
   pub before : (n m : Node) → IsBefore t n m → number m < N
-  pub uses : (p : ℕ) → All (λ (u : LocUse). loc_number u.loc < L) (uses_in (touch_at (spot_in t p)))
+  pub uses : (p : ℕ) → AsksBelow L (touch_at (spot_in t p))
   pub earlier : (n : Node) (p : Pos) → (nearest_in t.deciders.now n).earlier ≡ Some p → number (At p.0) < N
   pub latest : (n : Node) (p : Pos) → (nearest_in t.deciders.now n).latest ≡ Some p → number (At p.0) < N
   pub nested : ∥ IsNestOf t.body.now t.nest.now ∥₁

@@ -16,14 +16,12 @@ use Rattle.block_cfg.specs.Graph.{number}
 use Rattle.worklist.specs.Packed.{PackedEdge}
 use Rattle.stack_names.specs.declared.place.Place.{Place}
 use Rattle.stack_names.specs.Named.{operands_in, of_node}
-use Rattle.flow_domain.specs.declared.loc_table.LocUse.{LocUse}
-use Rattle.flow_domain.specs.LocRows.{reading, changing}
 use Rattle.slice_closure.specs.declared.tables.Tables.{Tables}
 use Rattle.slice_closure.specs.declared.spot.Taken.{Taken}
 use Rattle.slice_closure.specs.declared.spot.Taken.TheVariants as taken
 use Rattle.slice_closure.specs.declared.spot.Touch.{Touch}
 use Rattle.slice_closure.specs.declared.spot.Touch.TheVariants as touch
-use Rattle.slice_closure.specs.Flow.{uses_in, touch_at, taken_is}
+use Rattle.slice_closure.specs.Flow.{AsksBelow, touch_at, taken_is}
 use Rattle.slice_closure.specs.declared.items.Item.{Item}
 use Rattle.slice_closure.specs.declared.items.Item.TheVariants.{Keeps, Needs}
 use Rattle.slice_closure.specs.Items.{loc_number, item_number, IsItem}
@@ -51,17 +49,16 @@ keeps_item N L n j e lt = subst (IsItem N L) (sym e) lt
 needs_item : (N L : ℕ) (x : Loc) (n : Node) (j : Item) → j ≡ Needs x n → loc_number x < L → number n < N → IsItem N L j
 needs_item N L x n j e below lt = subst (IsItem N L) (sym e) (below, lt)
 
--- a location that is read or checked is among the uses
-asked_item : (N L : ℕ) (touch : Touch) (p : ℕ) → All (λ (u : LocUse). loc_number u.loc < L) (uses_in touch) → number (At p) < N → (j : Item) → Asks touch p j
-    → IsItem N L j
+-- a location that is read or checked has a number
+asked_item : (N L : ℕ) (touch : Touch) (p : ℕ) → AsksBelow L touch → number (At p) < N → (j : Item) → Asks touch p j → IsItem N L j
 asked_item N L touch.Nothing p below lt j h = absurd h
-asked_item N L (touch.Reads x) p below lt j h = needs_item N L x (At p) j h (below 0 (reading x) (omega arith)) lt
+asked_item N L (touch.Reads x) p below lt j h = needs_item N L x (At p) j h (below 0 x (omega arith)) lt
 asked_item N L (touch.Writes x) p below lt j h = absurd h
-asked_item N L (touch.Changes x) p below lt j h = needs_item N L x (At p) j h (below 0 (changing x) (omega arith)) lt
-asked_item N L touch.Loads p below lt j h = ⊎_elim (λ e. needs_item N L Mem (At p) j e (below 0 (reading Mem) (omega arith)) lt)
-    (λ e. needs_item N L Size (At p) j e (below 1 (reading Mem) (omega arith)) lt) h
-asked_item N L touch.Stores p below lt j h = ⊎_elim (λ e. needs_item N L Mem (At p) j e (below 0 (reading Mem) (omega arith)) lt)
-    (λ e. needs_item N L Size (At p) j e (below 1 (reading Mem) (omega arith)) lt) h
+asked_item N L (touch.Changes x) p below lt j h = needs_item N L x (At p) j h (below 0 x (omega arith)) lt
+asked_item N L touch.Loads p below lt j h = ⊎_elim (λ e. needs_item N L Mem (At p) j e (below 0 Mem (omega arith)) lt)
+    (λ e. needs_item N L Size (At p) j e (below 1 Mem (omega arith)) lt) h
+asked_item N L touch.Stores p below lt j h = ⊎_elim (λ e. needs_item N L Mem (At p) j e (below 0 Mem (omega arith)) lt)
+    (λ e. needs_item N L Size (At p) j e (below 1 Mem (omega arith)) lt) h
 
 module _ (N L : ℕ) (t : Tables) (fits : Fits N L t) where
   -- what is around a position stands before it

@@ -3,13 +3,11 @@
 //! `block_cfg` and `flow_domain` tell the same in lists of points and of uses, a vector each. A search for one kept set reads few of them, and most instructions lead
 //! on to the next alone: so only what does not is listed here.
 
-ghost use Rattle.std.specs.Prelude.{◌≡◌, ◌+◌, ◌≤◌, ◌<◌, ◌^◌, ◌++◌, ◌∷◌, [], ◌≢◌, ℕ, IfOk, length, slice_get};
-ghost use Rattle.std.specs.List.{All};
+ghost use Rattle.std.specs.Prelude.{◌≡◌, ◌+◌, ◌≤◌, ◌<◌, ◌^◌, ◌++◌, ◌∷◌, [], ◌≢◌, ℕ, IfOk, length, max, slice_get};
 ghost use Rattle.wasm_types.specs.declared.place.Node.{Node};
 ghost use Rattle.wasm_types.specs.Code.{code_of};
 ghost use Rattle.block_cfg.specs.Graph.{number};
 ghost use Rattle.block_cfg.specs.Points.{HasPoints};
-ghost use Rattle.slice_closure.specs.Items.{loc_number};
 ghost use Rattle.slice_closure.specs.Flow as spec;
 ghost use Rattle.slice_closure.specs.declared.spot.Came.TheVariants as Came;
 
@@ -133,27 +131,37 @@ impl Flow {
         }
     }
 
-    /// A number above those of all locations that positions touch.
+    /// A number above those of all locations that positions read or check.
     pub(crate) fn locs_bound(&self) -> usize
-        ensures below { (p : ℕ) → All (λ one. loc_number one.loc < result) (spec.uses_in (spec.touch_at (slice_get self.now.spots.items p))) }
+        ensures below { (p : ℕ) → spec.AsksBelow result (spec.touch_at (slice_get self.now.spots.items p)) }
         ensures small { result ≤ 2 ^ 33 + 3 }
     {
         let mut bound = 0;
         for spot in &self.spots {
-            bound = bound.max(touch_bound(spot.touch));
+            bound = greater(bound, touch_bound(spot.touch));
         }
         bound
     }
 }
 
-/// A number above those of the locations of a touch.
+/// The greater number.
+fn greater(first: usize, second: usize) -> usize
+    ensures { result ≡ max first second }
+{
+    if first < second { second } else { first }
+}
+
+/// A number above those of the locations that are read or checked.
 fn touch_bound(touch: Touch) -> usize
-    ensures below { All (λ one. loc_number one.loc < result) (spec.uses_in touch) }
+    ensures below { spec.AsksBelow result touch }
     ensures small { result ≤ 2 ^ 33 + 3 }
 {
     match touch {
         Touch::Nothing => 0,
-        Touch::Reads(loc) | Touch::Writes(loc) | Touch::Changes(loc) => loc_number(loc) + 1,
-        Touch::Loads | Touch::Stores => 2,
+        Touch::Writes(_) => 0,
+        Touch::Reads(loc) => loc_number(loc) + 1,
+        Touch::Changes(loc) => loc_number(loc) + 1,
+        Touch::Loads => 2,
+        Touch::Stores => 2,
     }
 }
