@@ -1,3 +1,5 @@
 pub mod ListingLemmas
 pub mod NamedLemmas
 pub mod PlaceLemmas
+pub mod SummaryLemmas
+mod SomeSummaries

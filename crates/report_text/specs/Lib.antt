@@ -4,5 +4,6 @@ pub mod InstructionTexts
 pub mod Listing
 pub mod ListingOf
 pub mod KeptTexts
+pub mod SummaryTexts
 pub mod Placed
 pub mod Drafts

@@ -9,10 +9,12 @@ mod place;
 mod refusal;
 mod room;
 mod run;
+mod summary;
 mod text;
 
 pub use kept::kept_text;
 pub use listing::list_text;
 pub use refusal::{ModuleRefusal, QueryRefusal, Refusal};
 pub use run::{Outcome, run_text};
+pub use summary::summary_text;
 pub use text::{refusal_text, slice_text, valid_text};

@@ -1,0 +1,7 @@
+use Rattle.std.proofs.Common.{◌≡◌}
+use Rattle.flow_domain.specs.declared.summary.Input.TheVariants.{Global}
+use Rattle.report_text.specs.SummaryTexts.{numbered}
+use Rattle.report_text.proofs.summary.inputs_of.Given as goal
+
+abbrev pub invariant-loop-k : goal.invariant-loop-k
+invariant-loop-k l = l.inputs.items ≡ numbered Global l.k
