@@ -1,7 +1,6 @@
 -- The texts of a listing, one piece after the other.
-use Rattle.std.proofs.Common.{◌≡◌, ℕ, zero, suc, ◌+◌, ◌-◌, ◌*◌, ◌≤◌, Bool, true, false, List, [], ◌∷◌, ◌++◌, Option, Result, Ok, Err, IfOk, length, take, replicate, refl, ap, ap₂, sym, ◌∙◌, append_assoc, append-nil, codes, arith}
+use Rattle.std.proofs.Common.{◌≡◌, ℕ, zero, suc, ◌+◌, ◌*◌, Bool, true, false, List, [], ◌∷◌, ◌++◌, Option, Result, Ok, Err, IfOk, length, replicate, refl, ap, sym, ◌∙◌, append_assoc, append-nil, codes, arith}
 use Rattle.std.specs.Prelude.{if◌then◌else◌, ◌==◌}
-use Rattle.std.proofs.lemmas.List.{take_all}
 use Rattle.wasm_types.specs.Nodes.{Join}
 use Rattle.wasm_types.specs.declared.module.ValType.{ValType}
 use Rattle.wasm_types.specs.declared.instr.Instr.{Instr, Block', Loop', If'}
@@ -10,8 +9,9 @@ use Rattle.wasm_types.specs.declared.place.Node.{Node}
 use Rattle.wasm_types.specs.declared.place.Taker.{Taker}
 use Rattle.wasm_types.specs.Code.{Code, done, block, repeat, branch, onto, code_of_row, code_of, is_plain, count}
 use Rattle.wasm_types.proofs.CodeLemmas.{onto-block, onto-loop, onto-if, onto-one}
+use Rattle.stack_names.specs.Ends.{ends_at}
 use Rattle.report_text.specs.InstructionTexts.{block_text, instruction_text}
-use Rattle.report_text.specs.Listing.{Told, arms_lines, closing_line, contents_lines, else_lines, end_makers, ended_by, ends_at, indent, last_arm, lines, maker_at, makers_in, position_line}
+use Rattle.report_text.specs.Listing.{Told, arms_lines, closing_line, contents_lines, else_lines, end_makers, ended_by, indent, last_arm, lines, maker_at, makers_in, position_line}
 
 -- two spaces for each
 pub spaces : (depth : ℕ) → indent depth ≡ replicate (2 * depth) 32

@@ -7,7 +7,6 @@ use Rattle.std.proofs.lemmas.List.Elements.{All-get_or}
 use Rattle.wasm_types.proofs.CodeLemmas.{length-flatten}
 use Rattle.std.proofs.lemmas.List.{reverse-append, map-append}
 use Rattle.wasm_types.specs.declared.module.ValType.{ValType}
-use Rattle.wasm_types.specs.declared.module.FuncType.{FuncType}
 use Rattle.wasm_types.specs.declared.module.Body.{Body}
 use Rattle.wasm_types.specs.declared.module.Module.{Module}
 use Rattle.wasm_types.specs.declared.place.Node.{Node}
@@ -18,16 +17,16 @@ use Rattle.wasm_types.specs.Actions.{Callees, callees}
 use Rattle.wasm_types.specs.Nodes.{Join}
 use Rattle.wasm_types.specs.Sites.{Site, Sites, all_operands}
 use Rattle.wasm_types.specs.Funcs.{Func, func_of, func_from, text, unwatched}
-use Rattle.wasm_types.specs.Spaces.{type_of_func, body_of, func_types, import_count, run_types}
+use Rattle.wasm_types.specs.Spaces.{body_of, func_types, import_count, run_types}
 use Rattle.wasm_types.specs.Sizes.{positions}
 use Rattle.wasm_types.specs.Subset.{IsSealed}
 use Rattle.wasm_types.specs.Marked.{marked}
 use Rattle.wasm_types.specs.Takers.{takers_of}
-use Rattle.stack_names.specs.declared.place.Place.{Place}
 use Rattle.stack_names.specs.Listed.{Listed}
-use Rattle.stack_names.specs.Named.{AreNames, Named, is_listed, is_live_in, listed, listed_all, operands_in, operands_of, place_of, placed, sites_in}
+use Rattle.stack_names.specs.Named.{Named, is_listed, is_live_in, listed, listed_all, operands_in, operands_of, place_of, placed, sites_in}
+use Rattle.stack_names.specs.Ends.{HasOperands, ends_at}
 use Rattle.report_text.specs.InstructionTexts.{block_text, instruction_text}
-use Rattle.report_text.specs.Listing.{Told, closing_line, else_lines, end_makers, ended_by, ends_at, func_listing, indent, last_arm, lines, listing, makers_in, operands_at, operands_text, position_line, told_of, with_else, with_end}
+use Rattle.report_text.specs.Listing.{Told, closing_line, else_lines, end_makers, ended_by, func_listing, indent, last_arm, lines, listing, makers_in, operands_at, operands_text, position_line, told_of, with_else, with_end}
 use Rattle.report_text.specs.ListingOf.{maker_of, told_by}
 
 -- ---- what is told of a position
@@ -63,12 +62,12 @@ same_operands cs T S ls p is =
 
 record Same (K L : Told) : Type 0 where
   operands : (p : ℕ) → K.operands p ≡ L.operands p
-  takers : (n : Node) → K.takers n ≡ L.takers n
+  takers : (end n : Node) → ends_at end (K.takers n) ≡ ends_at end (L.takers n)
 
-same_ends : (T U : Node → List Taker) (k : Node) (ns : List Node) → ((n : Node) → T n ≡ U n) → end_makers T k ns ≡ end_makers U k ns
+same_ends : (T U : Node → List Taker) (k : Node) (ns : List Node) → ((end n : Node) → ends_at end (T n) ≡ ends_at end (U n)) → end_makers T k ns ≡ end_makers U k ns
 same_ends T U k [] same = refl
 same_ends T U k (n ∷ ns) same =
-    ap (λ b. if b then n ∷ end_makers T k ns else end_makers T k ns) (ap (ends_at k) (same n))
+    ap (λ b. if b then n ∷ end_makers T k ns else end_makers T k ns) (same k n)
     ∙ ap (λ l. if ends_at k (U n) then n ∷ l else l) (same_ends T U k ns same)
 
 same_ended : (K L : Told) (k : Node) (c : Code) (p : ℕ) → Same K L → ended_by K k c p ≡ ended_by L k c p
@@ -119,7 +118,7 @@ own_body m f b e = go (nat_lt f (import_count m)) (nat_lt f (length (func_types 
     go false false e = absurd cc
     go false true e = e
 
-pub listed_lines : (m : Module) (f : ℕ) (n : Named) (b : Body) (h : AreNames m f unwatched n) → body_of m f ≡ Some b
+pub listed_lines : (m : Module) (f : ℕ) (n : Named) (b : Body) (h : HasOperands m f unwatched n) → body_of m f ≡ Some b
     → lines (told_by n) 0 (code_of b.code) 0 ++ closing_line 0 (codes "end") (ended_by (told_by n) Exit (code_of b.code) 0) ≡ listing m f
 listed_lines m f n b h own =
     let body : h.body ≡ b = (let e : Some h.body ≡ Some b = sym h.has_body.1 ∙ own_body m f b own in cc) in
@@ -129,7 +128,7 @@ listed_lines m f n b h own =
     let S = sites_in m h.kind unwatched b in
     let same : Same (told_by n) L = record {
       operands = λ p. same_operands (callees m) h.types S n.positions p (h.positions ∙ ap (λ (c : Body). listed_all (callees m) h.types (sites_in m h.kind unwatched c)) body);
-      takers = λ k. h.takers k ∙ ap (λ (c : Body). takers_of (callees m) (length h.kind.results) (marked unwatched 0 (code_of c.code)) k) body;
+      takers = λ end k. h.ended end k ∙ ap (λ (c : Body). ends_at end (takers_of (callees m) (length h.kind.results) (marked unwatched 0 (code_of c.code)) k)) body;
     } in
     joined _ _ _ _ (same_lines (told_by n) L 0 (code_of b.code) 0 same)
     (ap (λ ns. closing_line 0 (codes "end") ns) (same_ended (told_by n) L Exit (code_of b.code) 0 same))

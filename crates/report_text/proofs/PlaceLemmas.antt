@@ -1,5 +1,5 @@
 -- Writes at places of one buffer, one after another, and how many digits a number has.
-use Rattle.std.proofs.Common.{◌≡◌, ℕ, zero, suc, ◌+◌, ◌-◌, ◌*◌, ◌/◌, ◌%◌, ◌^◌, ◌<◌, ◌≤◌, List, [], ◌∷◌, ◌++◌, length, take, drop, refl, ap, sym, ◌∙◌, arith, append_assoc, length-append, length-take-le, length-drop, take-add, take-take, take_at, drop_at, take_all, take-append-drop}
+use Rattle.std.proofs.Common.{◌≡◌, ℕ, ◌+◌, ◌-◌, ◌/◌, ◌%◌, ◌^◌, ◌<◌, ◌≤◌, List, [], ◌∷◌, ◌++◌, length, take, drop, refl, ap, sym, ◌∙◌, arith, append_assoc, length-append, length-take-le, length-drop, take-add, take-take, take_at, drop_at, take_all, take-append-drop}
 use Rattle.std.specs.Prelude.{decimal}
 use Rattle.std.proofs.lemmas.Fmt.{decimal_digit, decimal_step}
 use Rattle.itoa.proofs.Decimal.{length_four}
@@ -23,6 +23,14 @@ Placed-less {a} {b} {xs} {i} {j} n within few p =
       moved = omega (arith, length-take-le n xs few);
       long = p.long;
     }
+
+-- the digits of a number: some of the bytes of a write, and one behind them
+pub Placed-last : {a b c front : List ℕ} {i j k : ℕ} (few n digit : ℕ) → i ≤ length a → few ≤ length front → take few front ≡ decimal (n / 10) → digit ≡ 48 + n % 10 → 10 ≤ n → n < 2 ^ 64
+    → Placed a b i front j → Placed b c (i + few) (digit ∷ []) k → Placed a c i (decimal n) k
+Placed-last {a} {b} {c} {front} {i} {j} {k} few n digit within short shown last lo hi p q =
+    let both = Placed-then (Placed-less few within short p) q in
+    let whole : take few front ++ digit ∷ [] ≡ decimal n = (λ x. shown x ++ last x ∷ []) ∙ sym (decimal_step n lo hi) in
+    record { bytes = both.bytes ∙ ap (λ l. take i a ++ l) whole; moved = both.moved ∙ ap (λ l. i + length l) whole; long = both.long }
 
 -- the first and the last `half` bytes of a text, laid over each other, are the text
 pub Placed-ends : {a b c : List ℕ} {i j k : ℕ} (text : List ℕ) (half : ℕ) → i ≤ length a → half ≤ length text → length text ≤ half + half

@@ -1,17 +1,17 @@
 -- The listing of a function (docs/COMMANDS.md, "What a listing prints").
-use Rattle.std.specs.Prelude.{◌≡◌, ℕ, zero, suc, ◌+◌, ◌||◌, Bool, true, false, if◌then◌else◌, List, [], ◌∷◌, ◌++◌, length, map, reverse, take, Option, Some, None, codes, decimal, slice_get}
+use Rattle.std.specs.Prelude.{ℕ, zero, suc, ◌+◌, if◌then◌else◌, List, [], ◌∷◌, ◌++◌, reverse, take, Option, Some, None, codes, decimal, slice_get}
 use Rattle.wasm_types.specs.declared.module.Module.{Module}
 use Rattle.wasm_types.specs.declared.place.Node.{Node}
 use Rattle.wasm_types.specs.declared.place.Node.TheVariants as node
 use Rattle.wasm_types.specs.declared.place.Taker.{Taker}
-use Rattle.wasm_types.specs.declared.place.Taker.TheVariants as taker
 use Rattle.wasm_types.specs.declared.instr.Instr.{Instr}
 use Rattle.wasm_types.specs.Code.{Code, done, one, block, repeat, branch, count, is_plain}
 use Rattle.wasm_types.specs.Marked.{Marked}
 use Rattle.wasm_types.specs.Actions.{Callees, callees}
 use Rattle.wasm_types.specs.Nodes.{At, Join}
-use Rattle.wasm_types.specs.Sites.{Site, Sites, all_operands, body_sites}
-use Rattle.wasm_types.specs.Takers.{node_eq, takers_of}
+use Rattle.wasm_types.specs.Sites.{Site, all_operands, body_sites}
+use Rattle.wasm_types.specs.Takers.{takers_of}
+use Rattle.stack_names.specs.Ends.{ends_at}
 use Rattle.wasm_types.specs.Funcs.{Func, func_of, text}
 use Rattle.report_text.specs.InstructionTexts.{block_text, instruction_text}
 
@@ -66,15 +66,6 @@ makers_in (one op rest) p = At p ∷ makers_in rest (p + 1)
 makers_in (block kind body rest) p = Join p ∷ makers_in rest (p + 1 + count body)
 makers_in (repeat kind body rest) p = Join p ∷ makers_in rest (p + 1 + count body)
 makers_in (branch kind x y rest) p = Join p ∷ makers_in rest (p + 1 + count x + count y)
-
--- the live end before node k takes the value
-abbrev pub is_end : Node → Taker → Bool
-is_end k (taker.End n) = node_eq n k
-is_end k (taker.Instr p) = false
-
-abbrev pub ends_at : Node → List Taker → Bool
-ends_at k [] = false
-ends_at k (t ∷ ts) = is_end k t || ends_at k ts
 
 -- the makers of the values that the end of a sequence takes: one at most in a valid body, and none where the end is dead
 abbrev pub end_makers : (Node → List Taker) → Node → List Node → List Node

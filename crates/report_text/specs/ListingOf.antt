@@ -1,5 +1,5 @@
 -- What the names of a body tell of it.
-use Rattle.std.specs.Prelude.{ℕ, if◌then◌else◌, List, map, Option, Some, None}
+use Rattle.std.specs.Prelude.{if◌then◌else◌, map, Some, None}
 use Rattle.wasm_types.specs.declared.place.Node.{Node}
 use Rattle.stack_names.specs.declared.place.Place.{Place}
 use Rattle.stack_names.specs.Named.{Named, is_live_in, of_node, operands_in}

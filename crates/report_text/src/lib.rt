@@ -2,6 +2,7 @@
 #![tactic(auto)]
 
 mod draft;
+mod front;
 mod instruction;
 mod kept;
 mod listing;

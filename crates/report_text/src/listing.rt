@@ -2,27 +2,52 @@
 
 ghost use Rattle.std.specs.Prelude.{◌≡◌, ◌+◌, ◌<◌, ◌≤◌, ◌^◌, ◌++◌, ◌∷◌, [], codes, decimal, map, IfOk, OnOk};
 ghost use Rattle.wasm_types.specs.Code.{code_of, count, done, onto};
-ghost use Rattle.report_text.specs.InstructionTexts.{block_text, instruction_text};
-ghost use Rattle.report_text.specs.Listing.{arms_lines, arrow_text, closing_line, contents_lines, end_makers, ended_by, ends_at, indent, lines, listing, node_text, nodes_after, operands_text, position_line};
+ghost use Rattle.report_text.specs.InstructionTexts.{block_text, instruction_text, number_after};
+ghost use Rattle.report_text.specs.Listing.{arms_lines, arrow_text, closing_line, contents_lines, end_makers, ended_by, indent, lines, listing, node_text, nodes_after, operands_text, position_line};
 ghost use Rattle.report_text.specs.Listing as words;
-ghost use Rattle.stack_names.specs.Named.{AreNames};
+ghost use Rattle.stack_names.specs.Ends.{HasOperands, ends_at};
 ghost use Rattle.wasm_types.specs.Funcs.{unwatched};
 ghost use Rattle.report_text.specs.ListingOf.{told_by, maker_of};
 ghost use Rattle.report_text.specs.Drafts.{written};
 
 use crate::draft::Draft;
-use crate::instruction::{push_block, push_instruction, push_number, push_number_after, push_text};
-use crate::place::{MOST_DIGITS, place_beginning, place_indent};
+use crate::front::{ROOM, place_beginning, place_next};
+use crate::instruction::{push_block, push_instruction, push_number, push_text};
+use crate::place::{place_byte, place_indent};
 use stack_names::{Names, Place};
 use std::alloc::{AllocError, Global};
-use wasm_types::{Instr, NoMemory, Node, Pos, Taker, ValType, ValidModule};
+use wasm_types::{Instr, MOST_POSITIONS, NoMemory, Node, Pos, Taker, ValType, ValidModule};
+
+/// How many bytes a line takes mostly, at most.
+const LINE: usize = 32;
+
+/// Adds a position.
+#[inline]
+fn push_position(out: &mut Draft, pos: u32) -> Result<(), AllocError>
+    ensures { OnOk result (written out.new ≡ written out.old ++ decimal pos) }
+{
+    out.reserve(ROOM)?;
+    out.len = place_next(out.bytes.as_mut_slice(), out.len, &mut out.front, pos);
+    Ok(())
+}
+
+/// Adds a space and a position.
+#[inline]
+fn push_position_after(out: &mut Draft, pos: u32) -> Result<(), AllocError>
+    ensures { OnOk result (written out.new ≡ written out.old ++ number_after pos) }
+{
+    out.reserve(1 + ROOM)?;
+    let at = place_byte(out.bytes.as_mut_slice(), out.len, b' ');
+    out.len = place_next(out.bytes.as_mut_slice(), at, &mut out.front, pos);
+    Ok(())
+}
 
 /// Adds a node's name: a position by its number, and a block's end by j and the block's number.
 pub(crate) fn push_node(out: &mut Draft, node: Node) -> Result<(), AllocError>
     ensures { OnOk result (written out.new ≡ written out.old ++ node_text node) }
 {
     match node {
-        Node::At(Pos(at)) => push_number(out, at),
+        Node::At(Pos(at)) => push_position(out, at),
         Node::Join(Pos(at)) => {
             push_text(out, "j")?;
             push_number(out, at)
@@ -37,7 +62,7 @@ fn push_node_after(out: &mut Draft, node: Node) -> Result<(), AllocError>
     ensures { OnOk result (written out.new ≡ written out.old ++ (codes " " ++ node_text node)) }
 {
     match node {
-        Node::At(Pos(at)) => push_number_after(out, at),
+        Node::At(Pos(at)) => push_position_after(out, at),
         Node::Join(Pos(at)) => {
             push_text(out, " j")?;
             push_number(out, at)
@@ -67,6 +92,7 @@ fn push_makers(out: &mut Draft, places: &[Place]) -> Result<(), AllocError>
 }
 
 /// Adds the operands of a position, where it has any, or that it is dead.
+#[inline(always)]
 fn push_operands(out: &mut Draft, names: &Names, at: u32) -> Result<(), AllocError>
     ensures { OnOk result (written out.new ≡ written out.old ++ operands_text ((told_by names.now).operands at)) }
 {
@@ -112,12 +138,13 @@ fn push_closing(
 }
 
 /// Adds what stands before an instruction: its position, and two spaces for each block around it.
+#[inline(always)]
 fn push_beginning(out: &mut Draft, at: u32, depth: usize) -> Result<(), AllocError>
     requires { depth < 2 ^ 32 }
     ensures { OnOk result (written out.new ≡ written out.old ++ (decimal at ++ (codes " " ++ indent depth))) }
 {
-    out.reserve(MOST_DIGITS + 1 + 2 * depth)?;
-    out.len = place_beginning(out.bytes.as_mut_slice(), out.len, at, depth);
+    out.reserve(ROOM + 1 + 2 * depth)?;
+    out.len = place_beginning(out.bytes.as_mut_slice(), out.len, &mut out.front, at, depth);
     Ok(())
 }
 
@@ -327,15 +354,15 @@ pub fn list_text(
     func: u32,
     names: &Names,
 ) -> Result<Vec<u8>, NoMemory>
-    requires { AreNames m.now func unwatched names.now }
+    requires { HasOperands m.now func unwatched names.now }
     ensures { IfOk result (λ text. text.items ≡ listing m.now func) }
 {
-    let mut out = Draft::new(alloc);
     let m = m.module();
     let Some(body) = m.body(func) else {
-        return Ok(out.into_bytes());
+        return Ok(Vec::new(alloc));
     };
     let code = body.code.as_slice();
+    let mut out = Draft::with_capacity(alloc, LINE * code.len().min(MOST_POSITIONS as usize))?;
     let ended = push_sequence(alloc, &mut out, names, code, 0, 0, Node::Exit)?;
     push_closing(&mut out, 0, "end", ended.makers.as_slice())?;
     Ok(out.into_bytes())

@@ -1,6 +1,6 @@
 //! Bytes at a place in a buffer that has room for them. What comes out is the place behind them.
 
-ghost use Rattle.std.specs.Prelude.{◌≡◌, ◌+◌, ◌*◌, ◌<◌, ◌≤◌, ◌++◌, ◌∷◌, [], codes, decimal, length, replicate, take};
+ghost use Rattle.std.specs.Prelude.{◌≡◌, ◌+◌, ◌*◌, ◌<◌, ◌≤◌, ◌∷◌, [], decimal, length, replicate, take};
 ghost use Rattle.std.specs.Fmt.{signed_decimal};
 ghost use Rattle.report_text.specs.Listing.{indent};
 ghost use Rattle.report_text.specs.Placed.{Placed};
@@ -24,12 +24,15 @@ pub(crate) fn place_byte(buf: &mut [u8], at: usize, byte: u8) -> usize
     at + 1
 }
 
-/// So many spaces.
+/// So many spaces. None takes no call.
 #[inline(always)]
 fn place_spaces(buf: &mut [u8], at: usize, count: usize) -> usize
     requires { at + count ≤ length buf.old }
     ensures { Placed buf.old buf.new at (replicate count 32) result }
 {
+    if count == 0 {
+        return at;
+    }
     let end = at + count;
     buf[at..end].fill(b' ');
     end
@@ -46,7 +49,7 @@ pub(crate) fn place_indent(buf: &mut [u8], at: usize, depth: usize) -> usize
 
 /// The first N bytes of a text: one load and one store.
 #[inline(always)]
-fn place_front<const N: usize>(buf: &mut [u8], at: usize, text: &[u8]) -> usize
+pub(crate) fn place_front<const N: usize>(buf: &mut [u8], at: usize, text: &[u8]) -> usize
     requires long { N ≤ length text.now }
     requires room { at + N ≤ length buf.old }
     ensures { Placed buf.old buf.new at (take N text.now) result }
@@ -145,17 +148,6 @@ pub(crate) fn place_number(buf: &mut [u8], at: usize, number: u32) -> usize
     ensures short { result ≤ at + 10 }
 {
     place_digits(buf, at, u64::from(number))
-}
-
-/// What stands before an instruction: its position, a space, and two spaces for each block around it.
-#[inline(always)]
-pub(crate) fn place_beginning(buf: &mut [u8], at: usize, pos: u32, depth: usize) -> usize
-    requires { at + 11 + 2 * depth ≤ length buf.old }
-    ensures { Placed buf.old buf.new at (decimal pos ++ (codes " " ++ indent depth)) result }
-{
-    let behind = place_number(buf, at, pos);
-    let begun = place_byte(buf, behind, b' ');
-    place_indent(buf, begun, depth)
 }
 
 /// A number with its sign, where it is below zero.

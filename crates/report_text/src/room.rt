@@ -1,9 +1,10 @@
 //! Room for a text that is being written.
 
-ghost use Rattle.std.specs.Prelude.{◌≡◌, ◌≤◌, [], take, vec_len, OnOk};
+ghost use Rattle.std.specs.Prelude.{◌≡◌, ◌≤◌, [], take, vec_len, IfOk, OnOk};
 ghost use Rattle.report_text.specs.Drafts.{HasRoom, written};
 
 use crate::draft::Draft;
+use crate::front::Front;
 use std::alloc::{AllocError, Global};
 
 /// How many bytes are made ready at a time, at least.
@@ -26,6 +27,18 @@ fn fill(bytes: &mut Vec<u8>, len: usize) -> Result<(), AllocError>
 }
 
 impl Draft {
+    /// Nothing yet, with so many bytes asked for ahead: what isn't written costs nothing, and a text that fits is never moved.
+    pub(crate) fn with_capacity(alloc: Global, capacity: usize) -> Result<Draft, AllocError>
+        ensures { IfOk result (λ draft. written draft ≡ []) }
+    {
+        let bytes = Vec::with_capacity(alloc, capacity)?;
+        Ok(Draft {
+            bytes,
+            len: 0,
+            front: Front::of(0),
+        })
+    }
+
     /// Nothing yet.
     pub(crate) fn new(alloc: Global) -> Draft
         ensures { written result ≡ [] }
@@ -33,6 +46,7 @@ impl Draft {
         Draft {
             bytes: Vec::new(alloc),
             len: 0,
+            front: Front::of(0),
         }
     }
 
@@ -65,7 +79,11 @@ impl Draft {
     pub(crate) fn into_bytes(self) -> Vec<u8>
         ensures { result.items ≡ written self }
     {
-        let Draft { mut bytes, len } = self;
+        let Draft {
+            mut bytes,
+            len,
+            front: _,
+        } = self;
         bytes.truncate(len);
         bytes
     }

@@ -1,7 +1,7 @@
-use Rattle.std.proofs.Common.{rules, ◌≡◌, ◌<◌, ◌+◌, ◌++◌, codes, length, drop, ap, ◌∙◌, sym, true, arith, List, ℕ, ◌∷◌, []}
+use Rattle.std.proofs.Common.{rules, ◌≡◌, ◌<◌, ◌+◌, ◌++◌, length, drop, ap, ◌∙◌, sym, true, arith, List, ℕ, ◌∷◌, []}
 use Rattle.wasm_types.specs.Code.{Code, done, onto, code_of, count, is_plain}
 use Rattle.wasm_types.proofs.CodeLemmas.{count-next, code-next, plain_is}
-use Rattle.report_text.specs.Listing.{end_makers, ended_by, lines, maker_at, makers_in}
+use Rattle.report_text.specs.Listing.{end_makers, ended_by, lines, maker_at}
 use Rattle.report_text.specs.ListingOf.{told_by}
 use Rattle.report_text.specs.Drafts.{written}
 use Rattle.report_text.proofs.ListingLemmas.{arms_made, counted_next, counts_block, counts_if, counts_loop, counts_plain, in_block, in_if, in_loop, in_plain, lines-onto, makers-onto, piece, two}

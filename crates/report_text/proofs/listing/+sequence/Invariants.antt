@@ -1,4 +1,4 @@
-use Rattle.std.proofs.Common.{◌≡◌, ◌+◌, ◌*◌, ◌<◌, ◌≤◌, ◌^◌, ◌++◌, drop}
+use Rattle.std.proofs.Common.{◌≡◌, ◌+◌, ◌*◌, ◌≤◌, ◌++◌, drop}
 use Rattle.wasm_types.specs.Code.{done, onto, code_of, count}
 use Rattle.report_text.specs.Listing.{ended_by, lines}
 use Rattle.report_text.specs.ListingOf.{told_by}

@@ -1,5 +1,5 @@
 use Rattle.std.proofs.Common.{◌≡◌, drop}
-use Rattle.report_text.specs.Listing.{ends_at}
+use Rattle.stack_names.specs.Ends.{ends_at}
 use Rattle.report_text.proofs.listing.is_taken_at_end.Given as goal
 
 abbrev pub invariant-loop-taker : goal.invariant-loop-taker

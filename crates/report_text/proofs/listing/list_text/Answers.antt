@@ -1,5 +1,4 @@
-use Rattle.std.proofs.Common.{◌≡◌, ◌++◌, ◌<◌, ◌+◌, ◌^◌, ◌∙◌, ap, sym, subst, codes, Some, List, ℕ, arith}
-use Rattle.wasm_types.specs.declared.module.Body.{Body}
+use Rattle.std.proofs.Common.{◌≡◌, ◌++◌, ◌<◌, ◌+◌, ◌^◌, ◌∙◌, ap, sym, subst, codes, Some, List, arith}
 use Rattle.wasm_types.specs.declared.module.Module.{Module}
 use Rattle.wasm_types.specs.declared.instr.Instr.{Instr}
 use Rattle.wasm_types.specs.declared.place.Node.TheVariants.{Exit}
@@ -21,9 +20,9 @@ pub returns : goal.returns
 returns c =
     let own : body_of c.args.m.now c.args.func ≡ Some c.in-Some.body.now = ap (λ (n : Module). body_of n c.args.func) (sym c.module-m.ensures.same) ∙ sym c.in-Some.ensures in
     let K = told_by c.args.names.now in
-    c.into_bytes-2.ensures
+    c.into_bytes.ensures
     ∙ c.in_ok-push_closing.ensures
     ∙ ap (λ ns. written c.push_sequence.new.out ++ closing_line 0 (codes "end") ns) (c.as_slice.ensures.value ∙ c.in_ok-ended.ensures.makers)
-    ∙ ap (λ l. l ++ closing_line 0 (codes "end") (ended_by K Exit (code_of c.as_slice-code.result.now) 0)) (c.in_ok-ended.ensures.lines ∙ ap (λ l. l ++ lines K 0 (code_of c.as_slice-code.result.now) 0) c.new-out.ensures)
+    ∙ ap (λ l. l ++ closing_line 0 (codes "end") (ended_by K Exit (code_of c.as_slice-code.result.now) 0)) (c.in_ok-ended.ensures.lines ∙ ap (λ l. l ++ lines K 0 (code_of c.as_slice-code.result.now) 0) c.in_ok-out.ensures)
     ∙ ap (λ (is : List Instr). lines K 0 (code_of is) 0 ++ closing_line 0 (codes "end") (ended_by K Exit (code_of is) 0)) c.as_slice-code.ensures
     ∙ listed_lines c.args.m.now c.args.func c.args.names.now c.in-Some.body.now c.requires own
