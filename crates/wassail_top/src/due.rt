@@ -2,7 +2,7 @@
 
 ghost use Rattle.std.specs.Prelude.{◌≡◌, ◌≤◌, ◌<◌, ◌^◌, ℕ, None, length, map, IfOk};
 ghost use Rattle.std.specs.String.{string_bytes};
-ghost use Rattle.stack_names.specs.Named.{AreNames};
+ghost use Rattle.stack_names.specs.Ends.{HasOperands};
 ghost use Rattle.wasm_types.specs.Canon.{canon};
 ghost use Rattle.wasm_types.specs.Funcs.{unwatched};
 ghost use Rattle.wasm_types.specs.Subset.{NestsAtMost, most_nesting};
@@ -33,7 +33,7 @@ use report_text::{
 use slice_closure::close_named;
 use slice_whole::{Sliced, calls, slice};
 use sqlite_items::Items;
-use stack_names::{Names, names};
+use stack_names::{Names, names, operand_names};
 use std::alloc::Global;
 use wasm_decode::decode;
 use wasm_encode::encode;
@@ -183,7 +183,7 @@ fn answer_list(alloc: Global, valid: &ValidModule, func: u32) -> Result<Reply, N
     if let Some(cause) = code_refusal(valid, func) {
         return refuse(alloc, Refusal::Query(cause));
     }
-    let names = names(alloc, valid, func)?;
+    let names = operand_names(alloc, valid, func)?;
     write_list(alloc, valid, func, &names)
 }
 
@@ -194,7 +194,7 @@ fn write_list(
     func: u32,
     names: &Names,
 ) -> Result<Reply, NoMemory>
-    requires { AreNames valid.now func unwatched names.now }
+    requires { HasOperands valid.now func unwatched names.now }
     ensures { IfOk result (λ reply. reply_answer reply ≡ bytes_alone (listing valid.now func)) }
 {
     Ok(Reply {
