@@ -1,0 +1,16 @@
+pub mod Numbers
+pub mod Marking
+pub mod Pushes
+pub mod StepLemmas
+pub mod Placed
+pub mod FormKinds
+pub mod Exact
+pub mod Known
+pub mod Forward
+pub mod RootLemmas
+pub mod Searching
+pub mod Right
+pub mod Finished
+pub mod MetLemmas
+pub mod TargetLemmas
+pub mod FlowLemmas

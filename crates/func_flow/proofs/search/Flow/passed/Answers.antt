@@ -1,0 +1,13 @@
+use Rattle.std.proofs.Common.{inl, inr, ⊎_elim}
+use Rattle.func_flow.proofs.search.Flow.passed.Goals as goal
+
+pub returns-then-writes-clause-exact : goal.returns-then-writes-clause-exact
+returns-then-writes-clause-exact c =
+    let w = c.writes.ensures.0 c.if-writes.true in λ j. (λ h. ⊎_elim (λ (written, e). e) (λ (free, e). absurd (free w)) h, λ e. inl (w, e))
+
+pub returns-else-writes-clause-exact : goal.returns-else-writes-clause-exact
+returns-else-writes-clause-exact c =
+    λ j. (
+      λ h. ⊎_elim (λ (written, e). let on = c.writes.ensures.1 written in let off = c.if-writes.false in absurd cc) (λ (free, e). e) h,
+      λ e. inr (λ w. let on = c.writes.ensures.1 w in let off = c.if-writes.false in cc, e),
+    )

@@ -1,0 +1,43 @@
+-- The tables that are made of the body of a function.
+use Rattle.std.specs.Prelude.{◌≡◌, ℕ, ◌+◌, ◌*◌, ◌≤◌, ◌<◌, Bool, length, slice_get}
+use Rattle.std.specs.List.{All}
+use Rattle.wasm_types.specs.declared.module.Module.{Module}
+use Rattle.wasm_types.specs.Code.{code_of, count}
+use Rattle.wasm_types.specs.Actions.{Callees}
+use Rattle.wasm_types.specs.Funcs.{unwatched}
+use Rattle.wasm_types.specs.Sites.{body_sites}
+use Rattle.wasm_types.specs.Spaces.{globals_of}
+use Rattle.wasm_types.specs.Subset.{IsSealed}
+use Rattle.block_cfg.specs.Points.{IsCfgOf}
+use Rattle.stack_names.specs.Named.{AreNames}
+use Rattle.stack_repair.specs.Law.{ValidHasHeights}
+use Rattle.control_deps.specs.Nest.{IsNestOf}
+use Rattle.control_deps.specs.Nearest.{AreNearest}
+use Rattle.flow_domain.specs.declared.loc_table.LocUse.{LocUse}
+use Rattle.flow_domain.specs.LocTables.{IsPlainTable, row_in}
+use Rattle.flow_domain.specs.Sliced.{watched_code}
+use Rattle.call_graph.specs.Graph.{IsCallGraph}
+use Rattle.flow_domain.specs.Summaries.{IsTableOf}
+use Rattle.func_flow.specs.declared.tables.Tables.{Tables}
+use Rattle.func_flow.specs.Items.{index_of}
+use Rattle.func_flow.specs.Steps.{steps}
+use Rattle.func_flow.specs.Targets.{AreAllTargets}
+
+pub record AreMade (m : Module) (f : ℕ) (t : Tables) : Type 0 where
+  pub sealed : IsSealed m
+  pub heights : ValidHasHeights
+  pub inside : t.inside.now ≡ m
+  pub names : AreNames m f unwatched t.names.now
+  pub same : names.body ≡ t.body.now
+  pub cfg : IsCfgOf t.body.now t.cfg.now
+  pub plain : (cs : Callees) (results : ℕ) (w : ℕ → Bool) → IsPlainTable cs (body_sites cs results (watched_code w t.body.now)) t.locs.now
+  pub nest : IsNestOf t.body.now t.nest.now
+  pub near : AreNearest t.nest.now t.deciders.now
+  pub steps : t.steps.now ≡ steps (code_of t.body.now.code)
+  pub graph : IsCallGraph m t.graph.now
+  pub table : IsTableOf m t.rows.now
+  pub globals : t.numbering.globals ≡ length (globals_of m)
+  pub nodes : t.numbering.nodes ≡ 2 * count (code_of t.body.now.code) + 1
+  pub locals : (p : ℕ) → All (λ (u : LocUse). index_of u.loc < t.numbering.locals) (row_in (slice_get t.locs.now p))
+  pub params : length names.kind.params ≤ t.numbering.locals
+  pub targets : AreAllTargets m t.rows.now t.numbering.globals t.steps.now t.targets.now
