@@ -1,5 +1,5 @@
 -- What functions of a valid module write has a row, and what calls ask for has one.
-use Rattle.std.proofs.Common.{◌≡◌, ℕ, zero, suc, ◌+◌, ◌<◌, inl, inr, List, [], ◌∷◌, Bool, true, false, Option, Some, None, IsSome, nat_eq, nat_lt, if◌then◌else◌, length, slice_get, refl, sym, ap, ◌∙◌, subst, arith}
+use Rattle.std.proofs.Common.{◌≡◌, ℕ, suc, ◌+◌, ◌<◌, inl, inr, List, [], ◌∷◌, Bool, true, false, Option, Some, None, IsSome, nat_eq, nat_lt, if◌then◌else◌, length, slice_get, refl, sym, ap, ◌∙◌, subst, arith}
 use Rattle.std.proofs.lemmas.Option.{slice_get_within}
 use Rattle.wasm_types.specs.declared.module.ValType.{ValType}
 use Rattle.wasm_types.specs.declared.module.FuncType.{FuncType}
@@ -8,12 +8,11 @@ use Rattle.wasm_types.specs.declared.module.Body.{Body}
 use Rattle.wasm_types.specs.declared.module.Module.{Module}
 use Rattle.wasm_types.specs.declared.place.Loc.{Loc}
 use Rattle.wasm_types.specs.declared.place.Loc.TheVariants.{Local, Global, Mem, Size, Host}
-use Rattle.wasm_types.specs.declared.place.Node.{Node}
 use Rattle.wasm_types.specs.declared.instr.Instr.{Instr}
 use Rattle.wasm_types.specs.declared.instr.Instr as instr
-use Rattle.wasm_types.specs.Actions.{Action, Callees, callees, Callee, Own, Through, Form, NoForm, Plain, CallOf, CallBy, form_of, Task, NoTask, Acts, Asks, called_of, task_of}
-use Rattle.wasm_types.specs.Locations.{writes_in, is_outer}
-use Rattle.wasm_types.specs.Hosts.{HostFunc, host_from, host_of, host_writes, is_seen, seen_from, global_visible}
+use Rattle.wasm_types.specs.Actions.{Callees, callees, Callee, Own, Through, Form, Plain, form_of, Task, NoTask, Acts, Asks, called_of, task_of}
+use Rattle.wasm_types.specs.Locations.{writes_in}
+use Rattle.wasm_types.specs.Hosts.{HostFunc, host_from, host_of, host_writes, is_seen, seen_from}
 use Rattle.wasm_types.specs.Funcs.{Func, func_of, text, unwatched}
 use Rattle.wasm_types.specs.Marked.{Marked, End, Do, Block, Loop, If, Br, BrIf, BrTable, Return, Unreachable}
 use Rattle.wasm_types.specs.Labels.{arity}
@@ -22,17 +21,17 @@ use Rattle.wasm_types.specs.Reaching.{Writes, writes_it}
 use Rattle.wasm_types.specs.Sites.{DoHead, Site, Sites, IsSite}
 use Rattle.wasm_types.specs.Spaces.{globals_of, import_count, type_of_func}
 use Rattle.wasm_types.specs.Subset.{HasNoFloat}
-use Rattle.wasm_types.specs.Typing.{Context, Types}
+use Rattle.wasm_types.specs.Typing.{Context}
 use Rattle.wasm_types.specs.Validity.{IsValid}
-use Rattle.flow_domain.specs.Bounds.{Cover, Bounds, bounds, called, written_by, writes_at, writes_of}
+use Rattle.flow_domain.specs.Bounds.{Cover, bounds, called, written_by, writes_at, writes_of}
 use Rattle.flow_domain.specs.Heights.{Shaped}
 use Rattle.flow_domain.specs.Reach.{LiveIn, MayWrite, by_code, by_host, CalleeWrites, WritesExact}
 use Rattle.flow_domain.specs.Rows.{Output, Ret, Final, Done}
 use Rattle.flow_domain.specs.Sliced.{context_of, watched_code}
-use Rattle.flow_domain.specs.Summaries.{IsKnown, row_number}
+use Rattle.flow_domain.specs.Summaries.{IsKnown}
 use Rattle.flow_domain.proofs.Summing.{among_is}
 use Rattle.summary_fix.proofs.Owned.{parts}
-use Rattle.stack_repair.specs.Law.{HasTypes, HasTypedBody}
+use Rattle.stack_repair.specs.Law.{HasTypes}
 use Rattle.stack_repair.proofs.Bodies.{valid_has_heights}
 use Rattle.summary_fix.proofs.LiveSites.{same_site}
 

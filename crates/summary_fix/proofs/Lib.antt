@@ -3,4 +3,10 @@ pub mod LiveSites
 pub mod Owned
 pub mod Known
 pub mod Stepping
+pub mod Hosted
 pub mod Returning
+pub mod Importing
+pub mod Imported
+pub mod Starting
+pub mod Marking
+pub mod Covers

@@ -7,7 +7,7 @@ use Rattle.wasm_types.specs.declared.place.Node.TheVariants.{Exit}
 use Rattle.wasm_types.specs.declared.instr.Instr.{Instr}
 use Rattle.wasm_types.specs.Marked.{Marked, End, Do, Block, Loop, If, Br, BrIf, BrTable, Return, Unreachable, size}
 use Rattle.wasm_types.specs.Actions.{Callees, callees, Callee, Own, Through, Form, NoForm, Plain, CallOf, CallBy, form_of, own_task, table_task, task_by, called_of}
-use Rattle.wasm_types.specs.Nodes.{Join, named, made}
+use Rattle.wasm_types.specs.Nodes.{Join, made}
 use Rattle.wasm_types.specs.Labels.{arity, Label, block_label, loop_label}
 use Rattle.wasm_types.specs.Sites.{Head, DoHead, Site, Sites, IsSite, sites, Among}
 use Rattle.wasm_types.specs.Spaces.{type_of_func}

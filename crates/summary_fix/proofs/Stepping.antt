@@ -1,20 +1,17 @@
 -- Rows that are added are rows of rounds, and where no rows are to be added all rounds' are there.
-use Rattle.std.proofs.Common.{◌≡◌, ◌↔◌, ℕ, zero, suc, ◌+◌, ◌<◌, ◌≤◌, ◌⊎◌, inl, inr, ⊎_elim, List, Bool, true, false, Option, Some, None, IsSome, length, get_or, slice_get, refl, sym, ap, ◌∙◌, subst, arith, length-append}
+use Rattle.std.proofs.Common.{◌≡◌, ℕ, zero, suc, ◌<◌, ◌≤◌, ◌⊎◌, inl, inr, ⊎_elim, List, Bool, true, false, Option, Some, None, IsSome, length, get_or, slice_get, refl, sym, ◌∙◌, subst, arith, length-append}
 use Rattle.std.proofs.lemmas.Option.{slice_get_within, slice_get-get_or}
 use Rattle.wasm_types.specs.declared.module.FuncType.{FuncType}
 use Rattle.wasm_types.specs.declared.module.Module.{Module}
-use Rattle.wasm_types.specs.declared.instr.Instr.{Instr}
 use Rattle.wasm_types.specs.declared.place.Loc.{Loc}
 use Rattle.wasm_types.specs.Actions.{Callee, Own, Through}
-use Rattle.wasm_types.specs.Funcs.{Func, func_of}
 use Rattle.wasm_types.specs.Nodes.{At}
-use Rattle.wasm_types.specs.Sites.{DoHead, Site, Sites, IsSite}
 use Rattle.wasm_types.specs.Spaces.{func_types, func_import, imported, globals_of, import_count, type_of_func, body_of}
 use Rattle.wasm_types.specs.Subset.{HasNoFloat}
 use Rattle.wasm_types.specs.Validity.{IsValid}
 use Rattle.flow_domain.specs.Bounds.{Cover, Bounds, bounds}
 use Rattle.flow_domain.specs.Reach.{CallsFunc}
-use Rattle.flow_domain.specs.Rows.{Output, Ret, Final, Done, Rows, RowOf, Makes, Led, LedTo, by_code, by_host, Dep, AnyRound, ImportRows, func_sites, func_ends}
+use Rattle.flow_domain.specs.Rows.{Output, Rows, RowOf, Makes, LedTo, by_code, by_host, Dep, AnyRound, ImportRows, func_sites}
 use Rattle.flow_domain.specs.Summaries.{IsSet, row_number, column_number, HasInput, IsKnown, IsMerged, IsShape, IsTableOf, TableRows}
 use Rattle.flow_domain.specs.Touch.{IsExact}
 use Rattle.flow_domain.specs.declared.summary.Summary.{Summary}
@@ -22,7 +19,7 @@ use Rattle.flow_domain.specs.declared.summary_table.SummaryTable.{SummaryTable}
 use Rattle.flow_laws.proofs.Sound.{any_round_holds}
 use Rattle.summary_fix.specs.Settled.{IsSound, IsFull}
 use Rattle.summary_fix.specs.TwoRuns.{IsLeastTable}
-use Rattle.summary_fix.proofs.Between.{Asks, led_asks, FuncAsksWithin, ledto_between}
+use Rattle.summary_fix.proofs.Between.{led_asks, ledto_between}
 use Rattle.summary_fix.proofs.LiveSites.{IsCalled, site_calls}
 use Rattle.summary_fix.proofs.Known.{asked_known}
 use Rattle.summary_fix.proofs.Owned.{value_of, body_at, own_typed, parts, host_parts}

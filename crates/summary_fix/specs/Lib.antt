@@ -1,2 +1,3 @@
 pub mod TwoRuns
 pub mod Settled
+pub mod Imports

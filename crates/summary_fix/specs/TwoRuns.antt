@@ -1,50 +1,65 @@
 -- What the rows of a module's functions leave out has no influence (docs/ANALYSES.md, "Rows").
-use Rattle.std.specs.Prelude.{◌≡◌, ◌↔◌, ℕ, List, Bool, true, length, Some}
+use Rattle.std.specs.Prelude.{◌≡◌, ◌↔◌, ℕ, List, Bool, true, false, length, Some}
 use Rattle.wasm_types.specs.declared.module.Value.{Value}
 use Rattle.wasm_types.specs.declared.module.Module.{Module}
 use Rattle.wasm_types.specs.declared.place.Loc.{Loc}
 use Rattle.wasm_types.specs.declared.run.Event.{Event}
-use Rattle.wasm_types.specs.Funcs.{Func, func_of}
-use Rattle.wasm_types.specs.Spaces.{globals_of}
+use Rattle.wasm_types.specs.declared.module.FuncType.{FuncType}
+use Rattle.wasm_types.specs.Spaces.{globals_of, type_of_func}
 use Rattle.wasm_types.specs.Subset.{HasNoFloat}
 use Rattle.wasm_types.specs.Validity.{IsValid}
+use Rattle.wasm_meaning.specs.Equality.{EqAt}
+use Rattle.wasm_meaning.specs.Fits.{Fits}
 use Rattle.wasm_meaning.specs.Invoke.{Returns}
 use Rattle.wasm_meaning.specs.State.{State}
 use Rattle.flow_domain.specs.Bounds.{Cover, bounds}
 use Rattle.flow_domain.specs.Reach.{WritesExact}
-use Rattle.flow_domain.specs.Rows.{Output, Done, AnyRound}
+use Rattle.flow_domain.specs.Rows.{Output, Done, IsInput, AnyRound}
 use Rattle.flow_domain.specs.Summaries.{IsKnown, TableRows}
 use Rattle.flow_domain.specs.Touch.{IsExact}
 use Rattle.flow_domain.specs.declared.summary_table.SummaryTable.{SummaryTable}
-use Rattle.flow_laws.specs.Soundness.{AgreeAt, DifferOnly, Omits, ReturnsAlike}
+use Rattle.flow_laws.specs.Soundness.{AgreeAt, Omits, ReturnsAlike, entry}
 
--- invocations of function f that both return, from starts that differ only in inputs in J, agree on output o
-abbrev pub TwoAgree : Module → ℕ → Func → Output → (Loc → Bool) → Type 0
-TwoAgree m f F o J =
-    (args args' : List Value) (s s' : State) → DifferOnly m F J args args' s s' → (i i' n n' : ℕ) (results results' : List Value) (final final' : State)
-    (events events' : List Event) → Returns m f i args s n results final events → Returns m f i' args' s' n' results' final' events'
-    → AgreeAt o results results' final final'
+-- two starts of a function with so many parameters that differ only in inputs in J. The table and the cap are no inputs
+pub record StartsDiffer (m : Module) (params : ℕ) (J : Loc → Bool) (args args' : List Value) (s s' : State) : Type 0 where
+  pub long : length args ≡ params
+  pub long' : length args' ≡ params
+  pub fits : Fits m s
+  pub table : s'.table ≡ s.table
+  pub cap : s'.cap ≡ s.cap
+  pub equal : (x : Loc) → IsInput params x → J x ≡ false → EqAt x (entry args s) (entry args' s')
 
--- where an invocation of function f returns, one whose start differs only in inputs in J returns too, after as many turns
-abbrev pub BothReturn : Module → ℕ → Func → (Loc → Bool) → Type 0
-BothReturn m f F J =
-    (args args' : List Value) (s s' : State) → DifferOnly m F J args args' s s' → (i n : ℕ) (results : List Value) (final : State) (events : List Event)
+-- invocations of function f, with so many parameters, that both return, from starts that differ only in inputs in J, agree on output o
+abbrev pub TwoAgree : Module → ℕ → ℕ → Output → (Loc → Bool) → Type 0
+TwoAgree m f params o J =
+    (args args' : List Value) (s s' : State) → StartsDiffer m params J args args' s s' → (i i' n n' : ℕ) (results results' : List Value)
+    (final final' : State) (events events' : List Event) → Returns m f i args s n results final events
+    → Returns m f i' args' s' n' results' final' events' → AgreeAt o results results' final final'
+
+-- where an invocation of function f, with so many parameters, returns, one whose start differs only in inputs in J returns too, after as many turns
+abbrev pub BothReturn : Module → ℕ → ℕ → (Loc → Bool) → Type 0
+BothReturn m f params J =
+    (args args' : List Value) (s s' : State) → StartsDiffer m params J args args' s s' → (i n : ℕ) (results : List Value) (final : State) (events : List Event)
     → Returns m f i args s n results final events → ReturnsAlike m f i args' s' n s final
 
 -- ---- by the rounds of rows
 
--- So it is in a valid module without floats, for what no round leads the output to.
+-- So it is in a valid module without floats, for each function, imported ones too, and for what no round leads the output to.
 abbrev pub RoundsAgree : Type 0
 RoundsAgree =
-    (m : Module) (W : Cover) → IsValid m → HasNoFloat m → WritesExact m W → (f : ℕ) (F : Func) → func_of m f ≡ Some F → (o : Output) (J : Loc → Bool)
-    → Omits (bounds m W) f o J → TwoAgree m f F o J
+    (m : Module) (W : Cover) → IsValid m → HasNoFloat m → WritesExact m W → (f : ℕ) (t : FuncType) → type_of_func m f ≡ Some t → (o : Output)
+    (J : Loc → Bool) → Omits (bounds m W) f o J → TwoAgree m f (length t.params) o J
 
 abbrev pub RoundsReturn : Type 0
 RoundsReturn =
-    (m : Module) (W : Cover) → IsValid m → HasNoFloat m → WritesExact m W → (f : ℕ) (F : Func) → func_of m f ≡ Some F → (J : Loc → Bool)
-    → Omits (bounds m W) f Done J → BothReturn m f F J
+    (m : Module) (W : Cover) → IsValid m → HasNoFloat m → WritesExact m W → (f : ℕ) (t : FuncType) → type_of_func m f ≡ Some t → (J : Loc → Bool)
+    → Omits (bounds m W) f Done J → BothReturn m f (length t.params) J
 
 -- ---- by a table
+
+-- what callees write and touch, exactly
+abbrev pub HasExactCover : Module → Type 0
+HasExactCover m = (W : Cover) × IsExact m W
 
 -- the table has just the rows of any round, of each output that has rows there
 abbrev pub IsLeastTable : Module → SummaryTable → Type 0
@@ -57,7 +72,9 @@ LeavesOut t f o J = (x : Loc) → J x ≡ true → TableRows t f o x → ⊥
 
 abbrev pub TableAgrees : Module → SummaryTable → Type 0
 TableAgrees m t =
-    (f : ℕ) (F : Func) → func_of m f ≡ Some F → (o : Output) (J : Loc → Bool) → IsKnown (length (globals_of m)) o → LeavesOut t f o J → TwoAgree m f F o J
+    (f : ℕ) (kind : FuncType) → type_of_func m f ≡ Some kind → (o : Output) (J : Loc → Bool) → IsKnown (length (globals_of m)) o → LeavesOut t f o J
+    → TwoAgree m f (length kind.params) o J
 
 abbrev pub TableReturns : Module → SummaryTable → Type 0
-TableReturns m t = (f : ℕ) (F : Func) → func_of m f ≡ Some F → (J : Loc → Bool) → LeavesOut t f Done J → BothReturn m f F J
+TableReturns m t =
+    (f : ℕ) (kind : FuncType) → type_of_func m f ≡ Some kind → (J : Loc → Bool) → LeavesOut t f Done J → BothReturn m f (length kind.params) J

@@ -1,0 +1,48 @@
+-- Marks of functions whose rows may have to be made anew.
+use Rattle.std.proofs.Common.{◌≡◌, ◌≢◌, ℕ, ◌+◌, ◌<◌, ◌≤◌, ◌⊎◌, inl, inr, ⊎_elim, List, Bool, true, false, cond, if◌then◌else◌, length, get_or, set, take, refl, sym, ap, ◌∙◌, subst, arith, get_or-set_other}
+use Rattle.std.specs.List.{Contains}
+use Rattle.std.proofs.lemmas.Bool.{cases_eq}
+use Rattle.std.proofs.lemmas.List.{take_more}
+use Rattle.std.proofs.lemmas.List.Elements.{Contains-push_cases}
+use Rattle.wasm_types.specs.declared.module.Module.{Module}
+use Rattle.worklist.specs.Search.{IsMarked}
+use Rattle.flow_domain.specs.Reach.{CallsFunc}
+use Rattle.flow_domain.specs.declared.summary_table.SummaryTable.{SummaryTable}
+use Rattle.summary_fix.specs.Settled.{IsFull, IsSettled}
+
+off_on : {A : Type 0} (b : Bool) → b ≡ false → b ≡ true → A
+off_on b off on = absurd cc
+
+pub settled_after : (m : Module) (t u : SummaryTable) (marks after : List Bool) (func : ℕ) → IsSettled m t marks → length after ≡ length u.rows.items → IsFull m u func
+    → ((f : ℕ) → IsFull m t f → (CallsFunc m f func → ⊥) → IsFull m u f) → ((f : ℕ) → IsMarked (set marks func false) f → IsMarked after f)
+    → ((f : ℕ) → CallsFunc m f func → IsMarked after f) → IsSettled m u after
+settled_after m t u marks after func settled long full others kept callers = record { long = long; either = λ f fn. by f (settled.either f fn) (get_or after f false) refl }
+  where
+    by : (f : ℕ) → IsFull m t f ⊎ IsMarked marks f → (b : Bool) → get_or after f false ≡ b → IsFull m u f ⊎ IsMarked after f
+    by f old true on = inr on
+    by f (inl was) false off = inl (others f was (λ calls. off_on (get_or after f false) off (callers f calls)))
+    by f (inr marked) false off = elim (cases_eq f func) [
+      | inl e ↦ inl (subst (IsFull m u) (sym e) full)
+      | inr ne ↦ off_on (get_or after f false) off (kept f (get_or-set_other marks func f false false ne ∙ marked))
+    ]
+
+-- none of the first so many is marked: one more
+pub none_marked : (order : List ℕ) (i : ℕ) (lt : i < length order) (old new : List Bool) → ((f : ℕ) → Contains (take i order) f → IsMarked old f → ⊥)
+    → ((f : ℕ) → IsMarked new f → IsMarked old f × (f ≢ get_or order i 0)) → (f : ℕ) → Contains (take (i + 1) order) f → IsMarked new f → ⊥
+none_marked order i lt old new before only f there marked =
+    let was = only f marked in ⊎_elim
+    (λ h. before f h was.0)
+    (λ e. was.1 (sym e))
+    (Contains-push_cases (take i order) (get_or order i 0) f (rw (take_more order i 0 lt) at there))
+
+-- the room after rows were added
+pub grown_room : (first before after now : ℕ) (grew added grows : Bool) → before + cond grew 1 0 ≤ first → after + (if added then 1 else 0) ≤ before
+    → added ≡ true → now ≡ after → grows ≡ true → now + cond grows 1 0 ≤ first
+grown_room first before after now grew true true so_far less on same e = omega arith
+grown_room first before after now grew true false so_far less on same e = absurd cc
+grown_room first before after now grew false grows so_far less on same e = absurd cc
+
+pub kept_room : (first before after now less : ℕ) (grew grows : Bool) → before + cond grew 1 0 ≤ first → after + less ≤ before → now ≡ after → grows ≡ grew
+    → now + cond grows 1 0 ≤ first
+kept_room first before after now less grew grows so_far down same e =
+    let g : cond {A = ℕ} grows 1 0 ≡ cond {A = ℕ} grew 1 0 = ap {A = Bool} {B = ℕ} (λ b. cond b 1 0) e in omega arith

@@ -1,0 +1,30 @@
+use Rattle.summary_fix.proofs.Stepping.{apart_of, has_known, rows_shape, rows_globals, sound_more, full_more, full_made}
+use Rattle.summary_fix.proofs.Owned.{value_of, body_at}
+use Rattle.wasm_types.specs.Spaces.{body_of}
+use Rattle.summary_fix.proofs.rounds.add_rows.Goals as goal
+
+pub merge-grew-requires-clause-shape : goal.merge-grew-requires-clause-shape
+merge-grew-requires-clause-shape c =
+    rows_shape c.args.m.now c.args.table.now c.requires.sound c.args.func c.requires.body c.in_ok-rows.rows c.in_ok-rows.ensures.shape
+
+pub returns-clause-sound : goal.returns-clause-sound
+returns-clause-sound c =
+    let m = c.args.m.now in
+    let t = c.args.table.now in
+    let func = c.args.func in
+    let s = c.in_ok-rows.rows in
+    let b = value_of (body_of m func) c.requires.body in
+    let globals = rows_globals m t c.requires.sound func c.requires.body s c.in_ok-rows.ensures.shape in
+    sound_more m t c.merge-grew.new.self func s c.merge-grew.ensures.merged c.requires.sound (body_at m func b.0 b.1).own
+    (λ W exact o x h. (c.in_ok-rows.ensures.exact W exact o (has_known _ s globals o x h) x).0 h)
+
+pub returns-clause-full : goal.returns-clause-full
+returns-clause-full c = λ apart.
+    full_made c.args.m.now c.args.table.now c.merge-grew.new.self c.args.func c.in_ok-rows.rows c.merge-grew.ensures.merged
+    (λ W exact o x known led. (c.in_ok-rows.ensures.exact W exact o known x).1 led)
+    (apart_of c.merge-grew.result apart c.merge-grew.ensures.same)
+
+pub returns-clause-others : goal.returns-clause-others
+returns-clause-others c = λ f full apart.
+    full_more c.args.m.now c.args.table.now c.merge-grew.new.self c.args.func c.in_ok-rows.rows c.merge-grew.ensures.merged f full
+    (apart_of c.merge-grew.result apart c.merge-grew.ensures.same)

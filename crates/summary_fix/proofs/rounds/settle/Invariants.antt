@@ -1,0 +1,12 @@
+use Rattle.flow_domain.specs.Summaries.{table_room}
+use Rattle.summary_fix.specs.Settled.{IsSettled, IsSound}
+use Rattle.summary_fix.proofs.rounds.settle.Given as goal
+
+abbrev pub invariant-loop-marks : goal.invariant-loop-marks
+invariant-loop-marks l = record {
+  sound : IsSound l.m l.table;
+  settled : IsSettled l.m l.table l.marks.items;
+}
+
+abbrev pub decreases-loop-marks : goal.decreases-loop-marks
+decreases-loop-marks l = table_room l.table

@@ -1,0 +1,219 @@
+//! Rounds of rows: the rows of functions are made anew until none is added.
+
+ghost use Rattle.std.specs.Prelude.{◌≡◌, ◌≢◌, ℕ, ◌+◌, ◌^◌, ◌<◌, ◌≤◌, ◌↔◌, ◌⊎◌, IfOk, IsSome, IsTrue, false, if◌then◌else◌, length, vec_len};
+ghost use Rattle.std.specs.List.{All, Contains};
+ghost use Rattle.wasm_types.specs.Hosts.{IsFunction};
+ghost use Rattle.wasm_types.specs.Spaces.{body_of};
+ghost use Rattle.worklist.specs.Search.{IsMarked};
+ghost use Rattle.flow_domain.specs.Reach.{CallsFunc};
+ghost use Rattle.flow_domain.specs.Summaries.{table_room};
+ghost use Rattle.call_graph.specs.Graph.{IsCallGraph, TellsCaller};
+ghost use Rattle.summary_fix.specs.Settled.{IsFull, IsSettled, IsSound};
+
+use call_graph::CallGraph;
+use flow_domain::SummaryTable;
+use func_flow::flow_rows;
+use std::alloc::Global;
+use wasm_types::{NoMemory, ValidModule};
+
+/// Adds the rows that those of a function lead to, by one round; true where some are new.
+fn add_rows(
+    alloc: Global,
+    m: &ValidModule,
+    graph: &CallGraph,
+    table: &mut SummaryTable,
+    func: u32,
+) -> Result<bool, NoMemory>
+    requires graph { IsCallGraph m.now graph.now }
+    requires body { IsSome (body_of m.now func) }
+    requires sound { IsSound m.now table.old }
+    ensures sound { IfOk result (λ _. IsSound m.now table.new) }
+    ensures full { IfOk result (λ grew. (IsTrue grew → CallsFunc m.now func func → ⊥) → IsFull m.now table.new func) }
+    ensures others { IfOk result (λ grew. (f : ℕ) → IsFull m.now table.old f → (IsTrue grew → CallsFunc m.now f func → ⊥) → IsFull m.now table.new f) }
+    ensures room { IfOk result (λ grew. table_room table.new + (if grew then 1 else 0) ≤ table_room table.old) }
+{
+    let rows = flow_rows(alloc, m, func, graph, table)?;
+    let grew = table.merge(func, &rows);
+    Ok(grew)
+}
+
+/// Adds rows of a function by one round after another, until none is new.
+fn add_all(
+    alloc: Global,
+    m: &ValidModule,
+    graph: &CallGraph,
+    table: &mut SummaryTable,
+    func: u32,
+) -> Result<(), NoMemory>
+    requires graph { IsCallGraph m.now graph.now }
+    requires body { IsSome (body_of m.now func) }
+    requires sound { IsSound m.now table.old }
+    ensures sound { IfOk result (λ _. IsSound m.now table.new) }
+    ensures full { IfOk result (λ _. IsFull m.now table.new func) }
+    ensures others { IfOk result (λ _. (f : ℕ) → IsFull m.now table.old f → (CallsFunc m.now f func → ⊥) → IsFull m.now table.new f) }
+    ensures room { IfOk result (λ _. table_room table.new ≤ table_room table.old) }
+{
+    loop {
+        let grew = add_rows(alloc, m, graph, table, func)?;
+        if !grew {
+            return Ok(());
+        }
+    }
+}
+
+/// Adds rows of an own function until one more round adds none; true where some are new.
+fn fill_own(
+    alloc: Global,
+    m: &ValidModule,
+    graph: &CallGraph,
+    table: &mut SummaryTable,
+    func: u32,
+) -> Result<bool, NoMemory>
+    requires graph { IsCallGraph m.now graph.now }
+    requires func { IsFunction m.now func }
+    requires body { IsSome (body_of m.now func) }
+    requires sound { IsSound m.now table.old }
+    ensures sound { IfOk result (λ _. IsSound m.now table.new) }
+    ensures full { IfOk result (λ _. IsFull m.now table.new func) }
+    ensures others { IfOk result (λ grew. (f : ℕ) → IsFull m.now table.old f → (IsTrue grew → CallsFunc m.now f func → ⊥) → IsFull m.now table.new f) }
+    ensures room { IfOk result (λ grew. table_room table.new + (if grew then 1 else 0) ≤ table_room table.old) }
+{
+    let grew = add_rows(alloc, m, graph, table, func)?;
+    if grew && graph.calls(func, func) {
+        add_all(alloc, m, graph, table, func)?;
+    }
+    Ok(grew)
+}
+
+/// Adds rows of a function until one more round adds none; true where some are new.
+fn fill(
+    alloc: Global,
+    m: &ValidModule,
+    graph: &CallGraph,
+    table: &mut SummaryTable,
+    func: u32,
+) -> Result<bool, NoMemory>
+    requires graph { IsCallGraph m.now graph.now }
+    requires func { IsFunction m.now func }
+    requires sound { IsSound m.now table.old }
+    ensures sound { IfOk result (λ _. IsSound m.now table.new) }
+    ensures full { IfOk result (λ _. IsFull m.now table.new func) }
+    ensures others { IfOk result (λ grew. (f : ℕ) → IsFull m.now table.old f → (IsTrue grew → CallsFunc m.now f func → ⊥) → IsFull m.now table.new f) }
+    ensures room { IfOk result (λ grew. table_room table.new + (if grew then 1 else 0) ≤ table_room table.old) }
+{
+    match m.module().body(func) {
+        Some(_) => {
+            let grew = fill_own(alloc, m, graph, table, func)?;
+            Ok(grew)
+        }
+        None => Ok(false),
+    }
+}
+
+/// Marks each of some functions.
+fn mark_each(marks: &mut [bool], funcs: &[usize])
+    requires { All (λ f. f < length marks.old) funcs.now }
+    ensures kept { (f : ℕ) → IsMarked marks.old f → IsMarked marks.new f }
+    ensures all { (f : ℕ) → Contains funcs.now f → IsMarked marks.new f }
+{
+    for func in funcs {
+        marks[*func] = true;
+    }
+}
+
+/// Marks the functions that call another.
+fn mark_callers(
+    alloc: Global,
+    m: &ValidModule,
+    graph: &CallGraph,
+    marks: &mut [bool],
+    func: usize,
+) -> Result<(), NoMemory>
+    requires graph { IsCallGraph m.now graph.now }
+    requires func { IsFunction m.now func }
+    requires length { (f : ℕ) → IsFunction m.now f → f < length marks.old }
+    ensures kept { (f : ℕ) → IsMarked marks.old f → IsMarked marks.new f }
+    ensures all { IfOk result (λ _. (f : ℕ) → CallsFunc m.now f func → IsMarked marks.new f) }
+{
+    let mut callers = Vec::new(alloc);
+    graph.push_callers(func, &mut callers)?;
+    mark_each(marks, &callers);
+    Ok(())
+}
+
+/// Adds rows of a function until one more round adds none, and marks its callers where some are new; true where they are.
+fn refresh(
+    alloc: Global,
+    m: &ValidModule,
+    graph: &CallGraph,
+    table: &mut SummaryTable,
+    marks: &mut [bool],
+    func: usize,
+) -> Result<bool, NoMemory>
+    requires graph { IsCallGraph m.now graph.now }
+    requires func { IsFunction m.now func }
+    requires sound { IsSound m.now table.old }
+    requires settled { IsSettled m.now table.old marks.old }
+    ensures sound { IfOk result (λ _. IsSound m.now table.new) }
+    ensures settled { IfOk result (λ _. IsSettled m.now table.new marks.new) }
+    ensures room { IfOk result (λ grew. table_room table.new + (if grew then 1 else 0) ≤ table_room table.old) }
+    ensures full { IfOk result (λ grew. grew ≡ false → (f : ℕ) → IsMarked marks.new f → IsMarked marks.old f × (f ≢ func)) }
+{
+    marks[func] = false;
+    let grew = fill(alloc, m, graph, table, func as u32)?;
+    if grew {
+        mark_callers(alloc, m, graph, marks, func)?;
+    }
+    Ok(grew)
+}
+
+/// Refreshes each marked function, in order; true where rows were added.
+fn pass(
+    alloc: Global,
+    m: &ValidModule,
+    graph: &CallGraph,
+    table: &mut SummaryTable,
+    marks: &mut [bool],
+    order: &[usize],
+) -> Result<bool, NoMemory>
+    requires graph { IsCallGraph m.now graph.now }
+    requires order { All (λ f. IsFunction m.now f) order.now }
+    requires sound { IsSound m.now table.old }
+    requires settled { IsSettled m.now table.old marks.old }
+    ensures sound { IfOk result (λ _. IsSound m.now table.new) }
+    ensures settled { IfOk result (λ _. IsSettled m.now table.new marks.new) }
+    ensures room { IfOk result (λ grew. table_room table.new + (if grew then 1 else 0) ≤ table_room table.old) }
+    ensures full { IfOk result (λ grew. grew ≡ false → (f : ℕ) → Contains order.now f → IsMarked marks.new f → ⊥) }
+{
+    let mut grew = false;
+    for func in order {
+        if marks[*func] {
+            if refresh(alloc, m, graph, table, marks, *func)? {
+                grew = true;
+            }
+        }
+    }
+    Ok(grew)
+}
+
+/// Adds rows to those of functions until no round adds any, callees best first. Only such rows are made anew as are made from others that grew. It fails only where
+/// memory is refused.
+pub(crate) fn settle(
+    alloc: Global,
+    m: &ValidModule,
+    graph: &CallGraph,
+    table: &mut SummaryTable,
+) -> Result<(), NoMemory>
+    requires graph { IsCallGraph m.now graph.now }
+    requires sound { IsSound m.now table.old }
+    ensures sound { IfOk result (λ _. IsSound m.now table.new) }
+    ensures full { IfOk result (λ _. (f : ℕ) → IsFunction m.now f → IsFull m.now table.new f) }
+{
+    let mut marks = vec![in alloc; true; table.count()].map_err(|_| NoMemory)?;
+    loop {
+        let grew = pass(alloc, m, graph, table, &mut marks, graph.order())?;
+        if !grew {
+            return Ok(());
+        }
+    }
+}
