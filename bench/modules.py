@@ -110,6 +110,74 @@ def many_locals(sets, locals_=8192):
     return HEADER + section(1, counted([b"\x60\x00\x00"])) + section(3, counted([b"\0"])) + section(10, counted([sized(body)]))
 
 
+def calling(type_, bodies, in_table=False, globals_=0):
+    """One type, a function of it for each body (locals and code), all of them in a table where that is asked for, and so many mutable i32 globals."""
+    count = len(bodies)
+    text = HEADER + section(1, counted([type_])) + section(3, counted([b"\0"] * count))
+    if in_table:
+        text += section(4, b"\x01\x70\x00" + number(count))
+    if globals_:
+        text += section(6, counted([b"\x7f\x01\x41\x00\x0b"] * globals_))
+    if in_table:
+        text += section(9, b"\x01\x00\x41\x00\x0b" + counted([number(func) for func in range(count)]))
+    return text + section(10, counted([sized(body) for body in bodies]))
+
+
+def taking(params):
+    """The type of functions that take so many i32 and leave one."""
+    return b"\x60" + counted([b"\x7f"] * params) + b"\x01\x7f"
+
+
+def passing_on(call, params=1):
+    """A body that answers its first parameter, or what a call answers of all of them, turned round by one place."""
+    passed = b"".join(b"\x20" + number((place + 1) % params) for place in range(params))
+    return b"\0\x20\x00\x04\x7f" + passed + call + b"\x05\x20\x00\x0b\x0b"
+
+
+def chain(count, down=False):
+    """So many functions, each of which calls the next one, or the one before it where that is asked for; the last one calls none."""
+    bodies = [passing_on(b"\x10" + number(func + 1)) for func in range(count - 1)] + [b"\0\x20\x00\x0b"]
+    if down:
+        bodies = [b"\0\x20\x00\x0b"] + [passing_on(b"\x10" + number(func)) for func in range(count - 1)]
+    return calling(taking(1), bodies)
+
+
+def ring(count, params=1):
+    """So many functions, each of which calls the next one, and the last one the first."""
+    return calling(taking(params), [passing_on(b"\x10" + number((func + 1) % count), params) for func in range(count)])
+
+
+def web(count):
+    """So many functions, each of which calls the next one and a far one, so that all of them call one another."""
+    bodies = []
+    for func in range(count):
+        near, far = number((func + 1) % count), number((func * 7919 + 13) % count)
+        bodies.append(b"\0\x20\x00\x04\x7f\x20\x00\x10" + near + b"\x10" + far + b"\x05\x20\x00\x0b\x0b")
+    return calling(taking(1), bodies)
+
+
+def through_table(count):
+    """So many functions of one type, all in the table, each of which calls through it."""
+    return calling(taking(1), [passing_on(b"\x20\x00\x11\x00\x00")] * count, in_table=True)
+
+
+def wide(copies, params=64, globals_=128):
+    """One function of four positions a copy and one more: each copy adds a parameter and a global into another global."""
+    code = bytearray()
+    for place in range(copies):
+        code += b"\x20" + number(place % params) + b"\x23" + number((place * 5 + 1) % globals_) + b"\x6a\x24" + number(place % globals_)
+    return calling(taking(params), [b"\0" + bytes(code) + b"\x20\x00\x0b"], globals_=globals_)
+
+
+def wide_loop(copies, params=64, globals_=128):
+    """One function of six positions a copy and four more: a loop of copies, each of which writes one global from another where a parameter isn't zero."""
+    code = bytearray(b"\x03\x40")
+    for place in range(copies):
+        code += b"\x20" + number(place % params) + b"\x04\x40\x20" + number(place * 3 % params)
+        code += b"\x23" + number((place * 5 + 1) % globals_) + b"\x6a\x24" + number(place % globals_) + b"\x0b"
+    return calling(taking(params), [b"\0" + bytes(code) + b"\x20\x01\x0d\x00\x0b\x20\x00\x0b"], globals_=globals_)
+
+
 def functions_by_size(bytes_):
     """The numbers of the functions that have bodies, imported functions counted, those with most bytes first."""
 
