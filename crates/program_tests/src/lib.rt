@@ -14,3 +14,5 @@ mod row;
 mod running;
 #[cfg(test)]
 mod slicing;
+#[cfg(test)]
+mod summarising;

@@ -22,6 +22,8 @@ const NO_COMMANDS: &[Row] = &[
     ("slice 0 4294967296 s", HEADER, 2, b"", REFUSED),
     ("slice 0 0", HEADER, 2, b"", REFUSED),
     ("kept 0", HEADER, 2, b"", REFUSED),
+    ("summary 0 0", HEADER, 2, b"", REFUSED),
+    ("summary x", HEADER, 2, b"", REFUSED),
 ];
 
 #[test]

@@ -11,10 +11,10 @@ use Rattle.report_text.specs.Listing.{listing}
 use Rattle.wasm_decode.specs.Decode.{Decodes}
 use Rattle.wasm_validate.specs.Admission.{Refuses}
 use Rattle.wassail_top.specs.Orders.{Order}
-use Rattle.wassail_top.specs.Orders.Order.{check, rewrite, list, kept, slice, run, trace}
-use Rattle.wassail_top.specs.Answers.{Answers, AnswersOrder, AnswersModule, AnswersAdmitted, IsDue, IsKeptAs, IsSlicedAs, bytes_alone}
+use Rattle.wassail_top.specs.Orders.Order.{check, rewrite, list, summary, kept, slice, run, trace}
+use Rattle.wassail_top.specs.Answers.{Answers, AnswersOrder, AnswersModule, AnswersAdmitted, IsDue, IsKeptAs, IsSlicedAs, IsSummaryOf, bytes_alone}
 use Rattle.wassail_top.specs.Refusals.{Answer, unless_refused, why_no_code, why_not_decoded, why_not_admitted}
-use Rattle.wassail_top.specs.Queries.{positions_of, why_no_slice, why_not_kept, why_not_run, why_not_traced}
+use Rattle.wassail_top.specs.Queries.{positions_of, why_no_slice, why_no_summary, why_not_kept, why_not_run, why_not_traced}
 use Rattle.wassail_top.specs.RunAnswers.{AnswersUnless, IsRunAs, ended_status, run_status}
 use Rattle.wassail_top.specs.Statuses.{status_code}
 use Rattle.wassail_top.specs.Words.{order_of}
@@ -65,6 +65,7 @@ calm_admitted : (order : Order) (m : Module) (answer : Answer) → AnswersAdmitt
 calm_admitted check m answer h = calm_at answer 0 (ap (λ (a : Answer). a.status) h) (inl (omega arith))
 calm_admitted rewrite m answer h = calm_at answer 0 (ap (λ (a : Answer). a.status) h) (inl (omega arith))
 calm_admitted (list func) m answer h = calm_unless (why_no_code m func) (listing m func) answer h
+calm_admitted (summary only) m answer h = calm_unless_told (why_no_summary m only) (IsSummaryOf m only) (λ a s. ap (λ (x : Answer). x.status) s.is) answer h
 calm_admitted (kept func at) m answer h = calm_unless_told (why_not_kept m func at) (IsKeptAs m func at) (λ a k. ap (λ (x : Answer). x.status) k.is) answer h
 calm_admitted (slice func at name) m answer h =
     calm_unless_told (why_no_slice m func at name) (IsSlicedAs m func at name) (λ a sliced. ap (λ (x : Answer). x.status) sliced.is) answer h

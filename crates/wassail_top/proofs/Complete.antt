@@ -8,9 +8,9 @@ use Rattle.wasm_types.specs.declared.module.Module.{Module}
 use Rattle.text_laws.proofs.ModuleLemmas.{one_module}
 use Rattle.wasm_decode.specs.Decode.{Decodes}
 use Rattle.wasm_validate.specs.Admission.{IsAdmitted}
-use Rattle.wassail_top.specs.Answers.{AnswersOrder, AnswersBytes, AnswersModule, AnswersAdmitted, HasStatus, IsDue, IsKeptAs, IsSlicedAs, IsTaken, bytes_alone, most_bytes}
+use Rattle.wassail_top.specs.Answers.{AnswersOrder, AnswersBytes, AnswersModule, AnswersAdmitted, HasStatus, IsDue, IsKeptAs, IsSlicedAs, IsSummaryOf, IsTaken, bytes_alone, most_bytes}
 use Rattle.wassail_top.specs.Orders.{Order}
-use Rattle.wassail_top.specs.Orders.Order.{check, rewrite, list, kept, slice, run, trace}
+use Rattle.wassail_top.specs.Orders.Order.{check, rewrite, list, summary, kept, slice, run, trace}
 use Rattle.wassail_top.specs.Refusals.{Answer, unless_refused}
 use Rattle.wassail_top.specs.Queries.{positions_of, why_not_run, why_not_traced}
 use Rattle.wassail_top.specs.RunAnswers.{AnswersUnless}
@@ -26,6 +26,8 @@ of_admitted rewrite m answer takes h = ap (λ (a : Answer). a.status) h
 of_admitted (list func) m answer takes h =
     let told : answer ≡ bytes_alone (listing m func) = subst (λ why. answer ≡ unless_refused why (bytes_alone (listing m func))) takes h in
     ap (λ (a : Answer). a.status) told
+of_admitted (summary only) m answer takes h =
+    let s = subst (λ why. AnswersUnless why (IsSummaryOf m only) answer) takes h in ap (λ (a : Answer). a.status) s.is
 of_admitted (kept func at) m answer takes h =
     let k = subst (λ why. AnswersUnless why (IsKeptAs m func at) answer) takes h in ap (λ (a : Answer). a.status) k.is
 of_admitted (slice func at name) m answer takes h =

@@ -12,6 +12,12 @@ mod NotRefuted
 mod SomeAdmission
 mod SomeDecoding
 mod SomeSlice
+mod Tested
+mod SomeCover
+mod SomeRows
+mod OneRows
+mod SummaryAnswers
+mod TableRows
 mod RunLemmas
 mod ListedWords
 mod SightLemmas

@@ -8,7 +8,7 @@ use Rattle.wasm_decode.specs.Decode.{Decodes}
 use Rattle.wasm_validate.specs.Admission.{IsAdmitted, Refuses}
 use Rattle.wassail_top.specs.Answers.{Answers, AnswersOrder, AnswersBytes, AnswersModule, AnswersAdmitted, most_bytes}
 use Rattle.wassail_top.specs.Orders.{Order}
-use Rattle.wassail_top.specs.Orders.Order.{check, rewrite, list, kept, slice, run, trace}
+use Rattle.wassail_top.specs.Orders.Order.{check, rewrite, list, summary, kept, slice, run, trace}
 use Rattle.wassail_top.specs.Refusals.{Answer, why_not_decoded, why_not_admitted}
 use Rattle.wassail_top.specs.Queries.{positions_of, why_no_slice, why_not_kept, why_not_run, why_not_traced}
 use Rattle.wassail_top.specs.Words.{order_of}
@@ -20,11 +20,13 @@ use Rattle.wassail_top.proofs.OneDecoding.{decoded_not_refused}
 use Rattle.wassail_top.proofs.OneSlice.{one_kept_answer, one_slice_answer}
 use Rattle.wassail_top.proofs.Reading.{all_taken, not_long}
 use Rattle.wassail_top.proofs.RunLemmas.{one_run_answer}
+use Rattle.wassail_top.proofs.SummaryAnswers.{one_summary_answer}
 
 of_admitted : (order : Order) (m : Module) → IsAdmitted m → (a b : Answer) → AnswersAdmitted order m a → AnswersAdmitted order m b → a ≡ b
 of_admitted check m admitted a b p q = p ∙ sym q
 of_admitted rewrite m admitted a b p q = p ∙ sym q
 of_admitted (list func) m admitted a b p q = p ∙ sym q
+of_admitted (summary only) m admitted a b p q = one_summary_answer m only a b p q
 of_admitted (kept func at) m admitted a b p q = one_kept_answer m func at (why_not_kept m func at) a b p q
 of_admitted (slice func at name) m admitted a b p q = one_slice_answer m func at name admitted (why_no_slice m func at name) a b p q
 of_admitted (run func budget args replies) m admitted a b p q = one_run_answer m func (positions_of m func) budget args replies (why_not_run m func args) a b p q

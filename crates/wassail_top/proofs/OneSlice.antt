@@ -18,7 +18,7 @@ use Rattle.wassail_top.specs.Refusals.{Answer}
 use Rattle.wassail_top.specs.RunAnswers.{AnswersUnless}
 
 -- a query has one answer where what isn't refused has one
-one_unless : (why : Option QueryRefusal) (Holds : Answer → Type 0) → ((a b : Answer) → Holds a → Holds b → a ≡ b)
+pub one_unless : (why : Option QueryRefusal) (Holds : Answer → Type 0) → ((a b : Answer) → Holds a → Holds b → a ≡ b)
     → (a b : Answer) → AnswersUnless why Holds a → AnswersUnless why Holds b → a ≡ b
 one_unless None Holds one a b p q = one a b p q
 one_unless (Some why) Holds one a b p q = p ∙ sym q

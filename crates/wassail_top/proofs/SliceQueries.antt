@@ -1,5 +1,5 @@
 -- What it says that a slice isn't refused.
-use Rattle.std.proofs.Common.{◌≡◌, ◌⊎◌, ℕ, Bool, true, false, List, Option, Some, None, refl, nat_lt, slice_get}
+use Rattle.std.proofs.Common.{◌≡◌, ℕ, Bool, true, false, List, Option, Some, None, refl, nat_lt, slice_get}
 use Rattle.std.specs.Prelude.{if◌then◌else◌, option_and_then}
 use Rattle.wasm_types.specs.declared.module.Module.{Module}
 use Rattle.wasm_types.specs.Sites.{Site}

@@ -21,16 +21,17 @@ use Rattle.wasm_validate.proofs.AdmissionLemmas.{sealed_module}
 use Rattle.wassail_top.specs.Answers.{IsText, HasAnswer, AnswersOrder, AnswersBytes, AnswersModule, AnswersAdmitted, bytes_alone, most_bytes}
 use Rattle.report_text.specs.Listing.{listing}
 use Rattle.wassail_top.specs.Orders.{Order, most_name_bytes}
-use Rattle.wassail_top.specs.Orders.Order.{check, rewrite, list, kept, slice, run, trace}
+use Rattle.wassail_top.specs.Orders.Order.{check, rewrite, list, summary, kept, slice, run, trace}
 use Rattle.wassail_top.specs.Refusals.{Answer, refused, unless_refused, why_no_code}
 use Rattle.run_words.specs.Words.{number_of}
 use Rattle.wassail_top.specs.Queries.{positions_of, why_not_seen}
-use Rattle.wassail_top.specs.Words.{alone, given_of, one, order_of, running, tracing, two, two_and_name}
+use Rattle.wassail_top.specs.Words.{alone, given_of, one, one_or_none, order_of, running, tracing, two, two_and_name}
 use Rattle.wassail_top.proofs.NotRefuted.{NotRefuted}
 use Rattle.wassail_top.proofs.SomeAdmission.{some_admission}
 use Rattle.wassail_top.proofs.SomeDecoding.{some_decoding}
 use Rattle.wassail_top.proofs.SomeSlice.{some_kept_answer, some_slice_answer}
 use Rattle.wassail_top.proofs.RunLemmas.{some_run_answer, some_trace_answer}
+use Rattle.wassail_top.proofs.SummaryAnswers.{some_summary_answer}
 
 -- ---- the name in the words of a slice
 
@@ -39,6 +40,7 @@ abbrev HasProperName : Order → Type 0
 HasProperName check = Unit {0}
 HasProperName rewrite = Unit {0}
 HasProperName (list func) = Unit {0}
+HasProperName (summary only) = Unit {0}
 HasProperName (kept func at) = Unit {0}
 HasProperName (slice func at name) = IsText name × (length name ≤ most_name_bytes)
 HasProperName (run func budget args replies) = Unit {0}
@@ -96,6 +98,11 @@ bind_proper : {A : Type 0} (x : Option A) (order : A → Option Order) → ((a :
 bind_proper None order h = none_proper
 bind_proper (Some a) order h = h a
 
+summary_proper : (rest : List (List ℕ)) → IsProper (one_or_none summary rest)
+summary_proper [] = some_proper (summary None) tt
+summary_proper (a ∷ []) = bind_proper (number_of a) _ (λ f. some_proper (summary (Some f)) tt)
+summary_proper (a ∷ b ∷ rest) = none_proper
+
 kept_proper : (rest : List (List ℕ)) → IsProper (two kept rest)
 kept_proper [] = none_proper
 kept_proper (a ∷ []) = none_proper
@@ -122,10 +129,11 @@ words_proper (name ∷ rest) all =
     if_proper (bytes_eq name (codes "check")) _ _ (alone_proper check rest tt)
     (if_proper (bytes_eq name (codes "rewrite")) _ _ (alone_proper rewrite rest tt)
     (if_proper (bytes_eq name (codes "list")) _ _ (list_proper rest)
+    (if_proper (bytes_eq name (codes "summary")) _ _ (summary_proper rest)
     (if_proper (bytes_eq name (codes "kept")) _ _ (kept_proper rest)
     (if_proper (bytes_eq name (codes "slice")) _ _ (slice_proper rest (All-tail IsText name rest all))
     (if_proper (bytes_eq name (codes "run")) _ _ (run_proper rest)
-    (if_proper (bytes_eq name (codes "trace")) _ _ (trace_proper rest) none_proper))))))
+    (if_proper (bytes_eq name (codes "trace")) _ _ (trace_proper rest) none_proper)))))))
 
 -- ---- the answer
 
@@ -139,6 +147,7 @@ some_admitted : (order : Order) (m : Module) → HasProperName order → IsSeale
 some_admitted check m proper seal never = never (bytes_alone valid_line, refl)
 some_admitted rewrite m proper seal never = never (bytes_alone (canon m), refl)
 some_admitted (list func) m proper seal never = never (unless_refused (why_no_code m func) (bytes_alone (listing m func)), refl)
+some_admitted (summary only) m proper seal never = some_summary_answer m only seal never
 some_admitted (kept func at) m proper seal never = some_kept_answer m func at seal never
 some_admitted (slice func at name) m proper seal never = some_slice_answer m func at name seal proper.0 proper.1 never
 some_admitted (run func budget args replies) m proper seal never = some_run_answer m func (positions_of m func) budget args replies seal never

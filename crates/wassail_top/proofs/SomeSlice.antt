@@ -23,7 +23,7 @@ use Rattle.wassail_top.proofs.NoCode.{has_body, has_type}
 use Rattle.wassail_top.proofs.RunLemmas.{or_else_none}
 use Rattle.wassail_top.proofs.SliceQueries.{not_sliced_none}
 
-some_unless : (why : Option QueryRefusal) (Holds : Answer → Type 0) → (why ≡ None → NotRefuted ((answer : Answer) × Holds answer))
+pub some_unless : (why : Option QueryRefusal) (Holds : Answer → Type 0) → (why ≡ None → NotRefuted ((answer : Answer) × Holds answer))
     → NotRefuted ((answer : Answer) × AnswersUnless why Holds answer)
 some_unless None Holds here never = here refl never
 some_unless (Some why) Holds here never = never (refused (refusal.Query why), refl)

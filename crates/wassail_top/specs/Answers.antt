@@ -8,6 +8,7 @@ use Rattle.report_text.specs.declared.refusal.ModuleRefusal.TheVariants.{TooLong
 use Rattle.report_text.specs.Texts.{slice_line, valid_line}
 use Rattle.report_text.specs.Listing.{listing}
 use Rattle.report_text.specs.KeptTexts.{kept_lines}
+use Rattle.report_text.specs.SummaryTexts.{summary_lines}
 use Rattle.wasm_types.specs.declared.limits.TheConstants.{MOST_BYTES}
 use Rattle.wasm_types.specs.declared.module.Module.{Module}
 use Rattle.wasm_types.specs.declared.module.Name.{Name}
@@ -25,10 +26,11 @@ use Rattle.wasm_validate.specs.Admission.{IsAdmitted}
 use Rattle.flow_domain.specs.Kept.{Tells}
 use Rattle.flow_domain.specs.Sliced.{func_count, IsSliced, KeptAt}
 use Rattle.wassail_top.specs.Orders.{Order, most_name_bytes}
-use Rattle.wassail_top.specs.Orders.Order.{check, rewrite, list, kept, slice, run, trace}
-use Rattle.wassail_top.specs.Queries.{positions_of, why_not_kept, why_no_slice, why_not_run, why_not_traced}
+use Rattle.wassail_top.specs.Orders.Order.{check, rewrite, list, summary, kept, slice, run, trace}
+use Rattle.wassail_top.specs.Queries.{positions_of, why_no_summary, why_not_kept, why_no_slice, why_not_run, why_not_traced}
 use Rattle.wassail_top.specs.Refusals.{Answer, refused, IsRefused, unless_refused, why_no_code, why_not_decoded, why_not_admitted}
 use Rattle.wassail_top.specs.RunAnswers.{AnswersUnless, IsRunAs, IsStatusOfRun}
+use Rattle.wassail_top.specs.Summaries.{AreRows, RowTest}
 use Rattle.wassail_top.specs.Words.{order_of}
 
 -- the greatest number of bytes that a module may have
@@ -66,11 +68,18 @@ pub record IsKeptAs (m : Module) (f i : ℕ) (answer : Answer) : Type 0 where
   pub exact : Tells nodes (KeptAt (callees m) kind body i)
   pub is : answer ≡ bytes_alone (kept_lines nodes (count (code_of body.code)))
 
+-- the lines of the rows of one function, or of each
+pub record IsSummaryOf (m : Module) (only : Option ℕ) (answer : Answer) : Type 0 where
+  pub rows : RowTest
+  pub are : AreRows m rows
+  pub is : answer ≡ bytes_alone (summary_lines m rows only)
+
 -- what a command answers about a module that is valid, without a float and within the limits
 abbrev pub AnswersAdmitted : Order → Module → Answer → Type 0
 AnswersAdmitted check m answer = answer ≡ bytes_alone valid_line
 AnswersAdmitted rewrite m answer = answer ≡ bytes_alone (canon m)
 AnswersAdmitted (list func) m answer = answer ≡ unless_refused (why_no_code m func) (bytes_alone (listing m func))
+AnswersAdmitted (summary only) m answer = AnswersUnless (why_no_summary m only) (IsSummaryOf m only) answer
 AnswersAdmitted (kept func at) m answer = AnswersUnless (why_not_kept m func at) (IsKeptAs m func at) answer
 AnswersAdmitted (slice func at name) m answer = AnswersUnless (why_no_slice m func at name) (IsSlicedAs m func at name) answer
 -- nothing is seen past the last position
@@ -83,6 +92,7 @@ abbrev pub IsTaken : Order → Module → Type 0
 IsTaken check m = ⊤
 IsTaken rewrite m = ⊤
 IsTaken (list func) m = why_no_code m func ≡ None
+IsTaken (summary only) m = why_no_summary m only ≡ None
 IsTaken (kept func at) m = why_not_kept m func at ≡ None
 IsTaken (slice func at name) m = why_no_slice m func at name ≡ None
 IsTaken (run func budget args replies) m = why_not_run m func args ≡ None
@@ -93,6 +103,7 @@ abbrev pub HasStatus : Order → Module → ℕ → Type 0
 HasStatus check m status = status ≡ 0
 HasStatus rewrite m status = status ≡ 0
 HasStatus (list func) m status = status ≡ 0
+HasStatus (summary only) m status = status ≡ 0
 HasStatus (kept func at) m status = status ≡ 0
 HasStatus (slice func at name) m status = status ≡ 0
 HasStatus (run func budget args replies) m status = IsStatusOfRun m func (positions_of m func) budget args replies status

@@ -7,5 +7,6 @@ pub mod Refusals
 pub mod Reply
 pub mod RunAnswers
 pub mod Statuses
+pub mod Summaries
 pub mod Words
 pub mod Headline

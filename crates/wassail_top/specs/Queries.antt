@@ -1,5 +1,5 @@
 -- Why a query about a function, or about a position of it, is refused (docs/COMMANDS.md, "Refusals"). Of two causes the first counts (`option_or`).
-use Rattle.std.specs.Prelude.{ℕ, ℤ, List, [], Option, Some, None, nat_lt, if◌then◌else◌, option_and_then, slice_get}
+use Rattle.std.specs.Prelude.{ℕ, ℤ, List, [], length, Option, Some, None, nat_lt, if◌then◌else◌, option_and_then, slice_get}
 use Rattle.std.specs.Option.{option_or}
 use Rattle.report_text.specs.declared.refusal.QueryRefusal.{QueryRefusal}
 use Rattle.report_text.specs.declared.refusal.QueryRefusal.TheVariants as of_query
@@ -10,7 +10,7 @@ use Rattle.wasm_types.specs.declared.module.Value.{Value}
 use Rattle.wasm_types.specs.Actions.{callees}
 use Rattle.wasm_types.specs.Funcs.{Func, func_of, text}
 use Rattle.wasm_types.specs.Sites.{Site, body_sites}
-use Rattle.wasm_types.specs.Spaces.{body_of, type_of_func, mems_of}
+use Rattle.wasm_types.specs.Spaces.{body_of, func_types, type_of_func, mems_of}
 use Rattle.typed_runs.specs.Start.{least}
 use Rattle.module_run.specs.Runs.{most_run_pages}
 use Rattle.module_run.specs.Values.{values_for}
@@ -67,6 +67,11 @@ abbrev pub why_no_run : Module → ℕ → List ℤ → Option QueryRefusal
 why_no_run m f args = option_or (why_not_called m f args) (why_too_large (least (mems_of m)))
 
 -- ---- queries
+
+-- why `summary` is refused, of one function or of all
+abbrev pub why_no_summary : Module → Option ℕ → Option QueryRefusal
+why_no_summary m None = None
+why_no_summary m (Some f) = if nat_lt f (length (func_types m)) then None else Some (of_query.NoFunction f)
 
 -- why `run` is refused
 abbrev pub why_not_run : Module → ℕ → List ℤ → Option QueryRefusal

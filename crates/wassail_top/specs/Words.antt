@@ -5,7 +5,7 @@ use Rattle.std.specs.declared.option.Option.{Option}
 use Rattle.wasm_types.specs.declared.run.Reply.{Reply}
 use Rattle.run_words.specs.Words.{number_of, value_of, reply_of}
 use Rattle.wassail_top.specs.Orders.{Order, most_name_bytes}
-use Rattle.wassail_top.specs.Orders.Order.{check, rewrite, list, kept, slice, run, trace}
+use Rattle.wassail_top.specs.Orders.Order.{check, rewrite, list, summary, kept, slice, run, trace}
 
 -- the command, where no word follows
 abbrev pub alone : Order → List (List ℕ) → Option Order
@@ -16,6 +16,12 @@ alone order (word ∷ words) = None
 abbrev pub one : (ℕ → Order) → List (List ℕ) → Option Order
 one order (a ∷ []) = option_and_then (λ n. Some (order n)) (number_of a)
 one order words = None
+
+-- the command of a number, or of none
+abbrev pub one_or_none : (Option ℕ → Order) → List (List ℕ) → Option Order
+one_or_none order [] = Some (order None)
+one_or_none order (a ∷ []) = option_and_then (λ n. Some (order (Some n))) (number_of a)
+one_or_none order words = None
 
 -- the command of two numbers
 abbrev pub two : (ℕ → ℕ → Order) → List (List ℕ) → Option Order
@@ -73,6 +79,7 @@ order_named name rest =
     if bytes_eq name (codes "check") then alone check rest
     else if bytes_eq name (codes "rewrite") then alone rewrite rest
     else if bytes_eq name (codes "list") then one list rest
+    else if bytes_eq name (codes "summary") then one_or_none summary rest
     else if bytes_eq name (codes "kept") then two kept rest
     else if bytes_eq name (codes "slice") then two_and_name slice rest
     else if bytes_eq name (codes "run") then running rest

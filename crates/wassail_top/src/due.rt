@@ -10,31 +10,37 @@ ghost use Rattle.wasm_types.specs.WellFormed.{IsWellFormed};
 ghost use Rattle.wasm_validate.specs.Admission.{IsAdmitted};
 ghost use Rattle.report_text.specs.declared.refusal.Refusal.TheVariants as refusal;
 ghost use Rattle.report_text.specs.Listing.{listing};
+ghost use Rattle.report_text.specs.SummaryTexts.{rows_in, summary_lines};
 ghost use Rattle.report_text.specs.Texts.{valid_line};
+ghost use Rattle.flow_domain.specs.Summaries.{IsTableOf};
 ghost use Rattle.module_run.specs.Runs.{ends_as};
 ghost use Rattle.ref_interp.specs.Invokes.{Watches};
-ghost use Rattle.wassail_top.specs.Answers.{bytes_alone, IsDue, IsDueTo, AnswersAdmitted, AnswersBytes, AnswersModule, IsKeptAs, IsSlicedAs, most_bytes, slice_answer};
+ghost use Rattle.wassail_top.specs.Answers.{bytes_alone, IsDue, IsDueTo, AnswersAdmitted, AnswersBytes, AnswersModule, IsKeptAs, IsSlicedAs, IsSummaryOf, most_bytes, slice_answer};
 ghost use Rattle.wassail_top.specs.Orders.{asked, HasShortName, most_name_bytes, order_read};
-ghost use Rattle.wassail_top.specs.Queries.{positions_of, why_no_run, why_no_slice, why_not_kept, why_not_run, why_not_traced};
+ghost use Rattle.wassail_top.specs.Queries.{positions_of, why_no_run, why_no_slice, why_no_summary, why_not_kept, why_not_run, why_not_traced};
 ghost use Rattle.wassail_top.specs.Refusals.{IsRefusedFor, refused, unless_refused, why_no_code};
 ghost use Rattle.wassail_top.specs.Reply.{reply_answer};
 ghost use Rattle.wassail_top.specs.RunAnswers.{AnswersUnless, IsRunAs, run_answer};
 ghost use Rattle.wassail_top.specs.Words.{order_of};
 
-use crate::refusals::{admit_refusal, code_refusal, decode_refusal, sight_refusal, slice_refusal};
+use crate::refusals::{
+    admit_refusal, code_refusal, decode_refusal, sight_refusal, slice_refusal, summary_refusal,
+};
 use crate::status::Status;
 use crate::words::{Command, Question, WordsEnd, parse_words};
+use flow_domain::SummaryTable;
 use module_run::{RunEnd, RunRefusal, run, values_of};
 use outside_io::{ReadEnd, Source, read_all};
 use report_text::{
     ModuleRefusal, Outcome, QueryRefusal, Refusal, kept_text, list_text, refusal_text, run_text,
-    slice_text, valid_text,
+    slice_text, summary_text, valid_text,
 };
 use slice_closure::close_named;
 use slice_whole::{Sliced, calls, slice};
 use sqlite_items::Items;
 use stack_names::{Names, names, operand_names};
 use std::alloc::Global;
+use summary_fix::summarise;
 use wasm_decode::decode;
 use wasm_encode::encode;
 use wasm_types::{MOST_BYTES, Module, NoMemory, Pos, Reply as HostReply, ValidModule};
@@ -134,6 +140,7 @@ fn answer_question(
         Question::Check => answer_check(alloc),
         Question::Rewrite => answer_rewrite(alloc, valid),
         Question::List { func } => answer_list(alloc, valid, func),
+        Question::Summary { func } => answer_summary(alloc, valid, func),
         Question::Kept { func, at } => answer_kept(alloc, valid, func, at),
         Question::Run {
             func,
@@ -200,6 +207,35 @@ fn write_list(
     Ok(Reply {
         status: Status::Answered,
         out: list_text(alloc, valid, func, names)?,
+        err: Vec::new(alloc),
+    })
+}
+
+// What `summary` answers about an admitted module.
+fn answer_summary(alloc: Global, valid: &ValidModule, func: Option<u32>) -> Result<Reply, NoMemory>
+    requires admitted { IsAdmitted valid.now }
+    ensures { IfOk result (λ reply. AnswersUnless (why_no_summary valid.now func) (IsSummaryOf valid.now func) (reply_answer reply)) }
+{
+    if let Some(cause) = summary_refusal(valid, func) {
+        return refuse(alloc, Refusal::Query(cause));
+    }
+    let table = summarise(alloc, valid)?;
+    write_summary(alloc, valid, &table, func)
+}
+
+// The lines of the summary of a function, or of those of all, on out.
+fn write_summary(
+    alloc: Global,
+    valid: &ValidModule,
+    table: &SummaryTable,
+    func: Option<u32>,
+) -> Result<Reply, NoMemory>
+    requires { IsTableOf valid.now table.now }
+    ensures { IfOk result (λ reply. reply_answer reply ≡ bytes_alone (summary_lines valid.now (rows_in table.now) func)) }
+{
+    Ok(Reply {
+        status: Status::Answered,
+        out: summary_text(alloc, valid, table, func)?,
         err: Vec::new(alloc),
     })
 }

@@ -2,7 +2,7 @@
 
 ghost use Rattle.std.specs.Prelude.{◌≡◌, ℕ, Bool, None};
 ghost use Rattle.stack_names.specs.Named.{AreNames};
-ghost use Rattle.wassail_top.specs.Queries.{why_not_seen};
+ghost use Rattle.wassail_top.specs.Queries.{why_no_summary, why_not_seen};
 ghost use Rattle.wassail_top.specs.Refusals.{why_no_code, why_not_admitted, why_not_decoded, why_not_sliced};
 
 use report_text::{ModuleRefusal, QueryRefusal};
@@ -49,6 +49,16 @@ pub fn code_refusal(m: &ValidModule, func: u32) -> Option<QueryRefusal>
     match m.body(func) {
         Some(_) => None,
         None => Some(QueryRefusal::Imported { func }),
+    }
+}
+
+/// Why there is no summary of function `func`: there is no such function. Of all functions there is one.
+pub fn summary_refusal(m: &ValidModule, func: Option<u32>) -> Option<QueryRefusal>
+    ensures { result ≡ why_no_summary m.now func }
+{
+    match func {
+        Some(func) if func >= m.module().func_count() => Some(QueryRefusal::NoFunction { func }),
+        _ => None,
     }
 }
 

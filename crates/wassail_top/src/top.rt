@@ -11,9 +11,9 @@ ghost use Rattle.wasm_types.specs.Subset.{InSubset};
 ghost use Rattle.wasm_types.specs.Validity.{IsValid};
 ghost use Rattle.wasm_types.specs.WellFormed.{IsU8};
 ghost use Rattle.wassail_top.specs.Answers.{Answers, HasAnswer, HasStatus, IsTaken, IsText, most_bytes};
-ghost use Rattle.wassail_top.specs.Headline.{SliceHolds};
+ghost use Rattle.wassail_top.specs.Headline.{SliceHolds, SummaryHolds};
 ghost use Rattle.wassail_top.specs.Orders.{Order};
-ghost use Rattle.wassail_top.specs.Orders.Order.{slice};
+ghost use Rattle.wassail_top.specs.Orders.Order.{slice, summary};
 ghost use Rattle.wassail_top.specs.Outcome.{Answered, ReadFailed, WriteFailed};
 ghost use Rattle.wassail_top.specs.Refusals.{Answer};
 ghost use Rattle.wassail_top.specs.Words.{order_of};
@@ -73,6 +73,10 @@ pub fn wassail<S: Source, O: Sink, E: Sink>(
     // Status 0 of `slice`: a valid module that decodes as itself, whose slice follows the original.
     ensures slices { result ≡ 0 → (func at : ℕ) (name : List ℕ) → order_of (map string_bytes words.now) ≡ Some (slice func at name)
         → SliceHolds func at name (S.left source.old) (S.left source.new) (O.held out.old) (O.held out.new) (E.held err.old) (E.held err.new) }
+
+    // Status 0 of `summary`: rows of a module's functions, and what they leave out of an output has no influence on it.
+    ensures summaries { result ≡ 0 → (only : Option ℕ) → order_of (map string_bytes words.now) ≡ Some (summary only)
+        → SummaryHolds only (S.left source.old) (S.left source.new) (O.held out.old) (O.held out.new) (E.held err.old) (E.held err.new) }
 {
     let Ok(reply) = due(alloc, words, source) else {
         return Status::NoMemory.code();

@@ -4,9 +4,9 @@ ghost use Rattle.std.specs.Prelude.{◌≡◌, map, IfOk};
 ghost use Rattle.std.specs.String.{string_bytes};
 ghost use Rattle.run_words.specs.Words.{reply_of, value_of};
 ghost use Rattle.wassail_top.specs.Orders.{order_read, HasShortName};
-ghost use Rattle.wassail_top.specs.Orders.Order.{kept, list, slice};
+ghost use Rattle.wassail_top.specs.Orders.Order.{kept, list, slice, summary};
 ghost use Rattle.wassail_top.specs.Parses.{Parses, ReadsArgs, ReadsGiven, ReadsReplies};
-ghost use Rattle.wassail_top.specs.Words.{alone, before_slash, behind_slash, each, given_of, one, order_of, running, tracing, two, two_and_name};
+ghost use Rattle.wassail_top.specs.Words.{alone, before_slash, behind_slash, each, given_of, one, one_or_none, order_of, running, tracing, two, two_and_name};
 
 use run_words::{ReplyEnd, parse_number, parse_reply, parse_value};
 use sqlite_items::Items;
@@ -33,6 +33,10 @@ pub enum Question {
     /// Print the code of function `func`.
     List {
         func: u32,
+    },
+    /// Print which inputs the outputs of function `func` may depend on, or of each function.
+    Summary {
+        func: Option<u32>,
     },
     /// Print the nodes that position `at` of function `func` depends on.
     Kept {
@@ -86,6 +90,7 @@ pub fn parse_words(alloc: Global, words: &[String]) -> Result<Command, WordsEnd>
         "check" => parse_alone(Command::Ask(Question::Check), rest),
         "rewrite" => parse_alone(Command::Ask(Question::Rewrite), rest),
         "list" => parse_list(rest),
+        "summary" => parse_summary(rest),
         "kept" => parse_kept(rest),
         "slice" => parse_slice(rest),
         "run" => parse_run(alloc, rest),
@@ -117,6 +122,21 @@ fn parse_list(rest: &[String]) -> Result<Command, WordsEnd>
     };
     let func = parse_number(func.as_bytes()).ok_or(WordsEnd::Refused)?;
     Ok(Command::Ask(Question::List { func }))
+}
+
+// No word, or one number.
+fn parse_summary(rest: &[String]) -> Result<Command, WordsEnd>
+    ensures parses { Parses (one_or_none summary (map string_bytes rest.now)) result }
+    ensures short { IfOk result (λ command. HasShortName (order_read command)) }
+{
+    match rest {
+        [] => Ok(Command::Ask(Question::Summary { func: None })),
+        [func] => {
+            let func = parse_number(func.as_bytes()).ok_or(WordsEnd::Refused)?;
+            Ok(Command::Ask(Question::Summary { func: Some(func) }))
+        }
+        _ => Err(WordsEnd::Refused),
+    }
 }
 
 // Two numbers.

@@ -5,7 +5,7 @@ use Rattle.wassail_top.specs.Answers.{HasStatus}
 use Rattle.wassail_top.specs.Reply.{reply_answer}
 use Rattle.wassail_top.proofs.Calm.{not_memory, not_write_fault, read_failed, refused_words, only_refused_words}
 use Rattle.wassail_top.proofs.Complete.{succeeds}
-use Rattle.wassail_top.proofs.HeadlineLemmas.{headline}
+use Rattle.wassail_top.proofs.HeadlineLemmas.{slice_headline, summary_headline}
 use Rattle.wassail_top.proofs.top.wassail.Goals as goal
 
 pub returns-in-Ok-deliver-clause-read_fault : goal.returns-in-Ok-deliver-clause-read_fault
@@ -42,5 +42,10 @@ returns-in-Ok-deliver-clause-succeeds g c =
 
 pub returns-in-Ok-deliver-clause-slices : goal.returns-in-Ok-deliver-clause-slices
 returns-in-Ok-deliver-clause-slices g c =
-    λ zero f i name order. headline (map string_bytes c.args.words.now) f i name _ _ _ _ _ _ _ _ (reply_answer c.in-Ok.reply) order c.in-Ok.ensures.due
+    λ zero f i name order. slice_headline (map string_bytes c.args.words.now) f i name _ _ _ _ _ _ _ _ (reply_answer c.in-Ok.reply) order c.in-Ok.ensures.due
+    (sym c.code-in-Ok-deliver.ensures ∙ zero) c.in-Ok-deliver.ensures.all
+
+pub returns-in-Ok-deliver-clause-summaries : goal.returns-in-Ok-deliver-clause-summaries
+returns-in-Ok-deliver-clause-summaries g c =
+    λ zero only order. summary_headline (map string_bytes c.args.words.now) only _ _ _ _ _ _ _ _ (reply_answer c.in-Ok.reply) order c.in-Ok.ensures.due
     (sym c.code-in-Ok-deliver.ensures ∙ zero) c.in-Ok-deliver.ensures.all
