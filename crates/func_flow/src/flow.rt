@@ -157,7 +157,8 @@ fn rows_by(
 }
 
 /// The rows of an own function by one round (docs/ANALYSES.md, "Rows"): for each output the inputs that it leads to, by the rows that a table has for the
-/// functions called. It takes time and memory by the body and by what it leads to. It fails only where memory is refused.
+/// functions called. It takes time and memory by the body, by the locations that are needed at its
+/// points for each output, and by the targets of each type that it calls through the table. It fails only where memory is refused.
 pub fn flow_rows(
     alloc: Global,
     m: &ValidModule,

@@ -29,7 +29,8 @@ pub record StartsDiffer (m : Module) (params : ℕ) (J : Loc → Bool) (args arg
   pub cap : s'.cap ≡ s.cap
   pub equal : (x : Loc) → IsInput params x → J x ≡ false → EqAt x (entry args s) (entry args' s')
 
--- invocations of function f, with so many parameters, that both return, from starts that differ only in inputs in J, agree on output o
+-- Invocations of function f, with so many parameters, that both return, from starts that differ only in inputs in J, agree on output o. Which positions are
+-- watched (i, i') and how many turns they take at most (n, n') doesn't matter.
 abbrev pub TwoAgree : Module → ℕ → ℕ → Output → (Loc → Bool) → Type 0
 TwoAgree m f params o J =
     (args args' : List Value) (s s' : State) → StartsDiffer m params J args args' s s' → (i i' n n' : ℕ) (results results' : List Value)

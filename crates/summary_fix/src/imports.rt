@@ -12,7 +12,7 @@ use flow_domain::{Input, Output, Summary};
 use std::alloc::Global;
 use wasm_types::NoMemory;
 
-/// Has an output depend on an input, if it does.
+/// Adds an input to the row of an output, if it stands there.
 fn add_if(rows: &mut Summary, out: Output, inp: Input, does: bool)
     requires known { IsKnown rows.old.globals (asked out) }
     requires inp { IsSome (column_number rows.old.globals rows.old.params (place_of inp)) }
@@ -25,7 +25,7 @@ fn add_if(rows: &mut Summary, out: Output, inp: Input, does: bool)
     }
 }
 
-/// Has an output depend on each parameter.
+/// Adds each parameter to the row of an output.
 fn add_params(rows: &mut Summary, out: Output)
     requires { IsKnown rows.old.globals (asked out) }
     ensures shape { IsShape rows.old.globals rows.old.params rows.new }
@@ -37,7 +37,7 @@ fn add_params(rows: &mut Summary, out: Output)
     }
 }
 
-/// Has an output depend on each global that is marked.
+/// Adds each global that is marked to the row of an output.
 fn add_globals(rows: &mut Summary, out: Output, seen: &[bool])
     requires known { IsKnown rows.old.globals (asked out) }
     requires length { length seen.now ≡ rows.old.globals }
@@ -51,7 +51,7 @@ fn add_globals(rows: &mut Summary, out: Output, seen: &[bool])
     }
 }
 
-/// Has an output depend on the memory and its size, if that is seen, and on the host.
+/// Adds the memory and its size to the row of an output, if the memory is seen, and the host.
 fn add_memory(rows: &mut Summary, out: Output, memory: bool)
     requires { IsKnown rows.old.globals (asked out) }
     ensures shape { IsShape rows.old.globals rows.old.params rows.new }
@@ -63,7 +63,7 @@ fn add_memory(rows: &mut Summary, out: Output, memory: bool)
     rows.add(out, Input::Host);
 }
 
-/// Has an output of an imported function depend on all that the function uses.
+/// Adds all that an imported function uses to the row of an output.
 fn add_used(rows: &mut Summary, out: Output, seen: &[bool], memory: bool)
     requires known { IsKnown rows.old.globals (asked out) }
     requires length { length seen.now ≡ rows.old.globals }
@@ -76,7 +76,7 @@ fn add_used(rows: &mut Summary, out: Output, seen: &[bool], memory: bool)
     add_memory(rows, out, memory);
 }
 
-/// Has an output of an imported function depend on all that the function uses, if it changes it, and otherwise on the one input that it is.
+/// Adds to the row of an output all that an imported function uses, if the function changes it, and otherwise the one input that it is.
 fn add_row(rows: &mut Summary, out: Output, changed: bool, same: Input, seen: &[bool], memory: bool)
     requires known { IsKnown rows.old.globals (asked out) }
     requires same { IsSome (column_number rows.old.globals rows.old.params (place_of same)) }
@@ -92,7 +92,7 @@ fn add_row(rows: &mut Summary, out: Output, changed: bool, same: Input, seen: &[
     }
 }
 
-/// Has each global at the end depend on what it does.
+/// Adds to the row of each global at the end what it depends on.
 fn add_final_globals(rows: &mut Summary, seen: &[bool], memory: bool)
     requires { length seen.now ≡ rows.old.globals }
     ensures shape { IsShape rows.old.globals rows.old.params rows.new }

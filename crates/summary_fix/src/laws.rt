@@ -3,8 +3,8 @@
 ghost use Rattle.summary_fix.specs.Settled.{LeastTableHolds, SettledIsLeast};
 ghost use Rattle.summary_fix.specs.TwoRuns.{RoundsAgree, RoundsReturn};
 
-/// In a valid module without floats, and with tests that hold exactly what callees write: what no round of rows leads an output of a function to, an own or an
-/// imported one, has no influence on it. Two invocations that return agree on it, and where one returns the other does, if no round leads completion to it.
+/// In a valid module without floats, and with tests that hold exactly what callees write: what no round of rows leads an output of a function to, own or
+/// imported, has no influence on it. Two invocations that return agree on it, and where one returns the other does, if no round leads completion to it.
 pub fn law_two_runs()
     ensures agree { RoundsAgree }
     ensures returns { RoundsReturn }

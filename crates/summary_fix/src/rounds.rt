@@ -196,8 +196,8 @@ fn pass(
     Ok(grew)
 }
 
-/// Adds rows to those of functions until no round adds any, callees best first. Only such rows are made anew as are made from others that grew. It fails only where
-/// memory is refused.
+/// Adds rows to those of functions until no round adds any, callees best first. Only functions that call one whose rows grew are taken up again. It
+/// fails only where memory is refused.
 pub(crate) fn settle(
     alloc: Global,
     m: &ValidModule,

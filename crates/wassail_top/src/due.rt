@@ -223,7 +223,7 @@ fn answer_summary(alloc: Global, valid: &ValidModule, func: Option<u32>) -> Resu
     write_summary(alloc, valid, &table, func)
 }
 
-// The lines of the summary of a function, or of those of all, on out.
+// The lines of the rows of a function, or of every function, on out.
 fn write_summary(
     alloc: Global,
     valid: &ValidModule,

@@ -52,7 +52,7 @@ pub fn code_refusal(m: &ValidModule, func: u32) -> Option<QueryRefusal>
     }
 }
 
-/// Why there is no summary of function `func`: there is no such function. Of all functions there is one.
+/// Why there is no summary of function `func`: there is no such function. None where all functions are asked for.
 pub fn summary_refusal(m: &ValidModule, func: Option<u32>) -> Option<QueryRefusal>
     ensures { result ≡ why_no_summary m.now func }
 {

@@ -34,7 +34,7 @@ pub enum Question {
     List {
         func: u32,
     },
-    /// Print which inputs the outputs of function `func` may depend on, or of each function.
+    /// Print which inputs the outputs of function `func` may depend on, or, where there is none, of every function.
     Summary {
         func: Option<u32>,
     },
