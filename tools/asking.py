@@ -23,7 +23,7 @@ WORDS_REFUSED = b"wassail: words refused\n"
 LINES = {1: rb"wassail: module refused: [^\n]+\n", 2: re.escape(WORDS_REFUSED), 6: rb"wassail: query refused: [^\n]+\n"}
 SLICED = rb"function \d+ instruction \d+\n"
 NAME = "a slice of this script"
-SECONDS = 120
+SECONDS = 900
 
 
 def is_built(script):
@@ -69,6 +69,12 @@ def what_is_wrong(words, answer):
     if out:
         return f"status {status}, and bytes on standard output"
     return None if re.fullmatch(LINES.get(status, rb""), err) else f"status {status}, and on standard error {err!r}"
+
+
+def processor_time():
+    """The seconds of the programs that were run so far. It grows only while they run, whatever else the machine does."""
+    times = os.times()
+    return times.children_user + times.children_system
 
 
 @functools.cache
