@@ -19,7 +19,7 @@ use Rattle.call_graph.specs.declared.pairs.Pairs.{Pairs}
 use Rattle.call_graph.specs.Below.{AllBelow}
 use Rattle.call_graph.specs.Built.{IsEdge, IsSpread}
 use Rattle.call_graph.specs.Edges.{functions, edge_of, target_of, IsMember}
-use Rattle.call_graph.specs.Labels.{own_at, wait_at, root_at, touch_by, touch_root, write_by, write_root}
+use Rattle.call_graph.specs.Labels.{own_at, root_at, touch_by, touch_root, write_by, write_root}
 use Rattle.call_graph.specs.Pairs.{HasPair}
 use Rattle.call_graph.proofs.Members.{map_in, picked_in}
 use Rattle.call_graph.proofs.Spreading.{number_there, class_there}
@@ -135,9 +135,6 @@ module _ (order : List ℕ) (nodes : ℕ) (exact : (x : ℕ) → Contains order 
 
   pub own_nodes : (roots : List Root) → roots ≡ map own_at order → All (λ (r : Root). r.node < nodes) roots
   own_nodes roots are = rw are (at_nodes own_at (λ x. refl))
-
-  pub wait_nodes : All (λ (r : Root). r.node < nodes) (map wait_at order)
-  wait_nodes = at_nodes wait_at (λ x. refl)
 
 module _ (acts : List Act) (n nodes : ℕ) (le : n ≤ nodes) (doers : All (λ (a : Act). a.func < n) acts) (roots : List Root) where
   pub touch_nodes : roots ≡ filter_map touch_root acts → All (λ (r : Root). r.node < nodes) roots

@@ -1,8 +1,8 @@
 -- The tables of a module's graph tell what its functions call, reach, touch and write.
-use Rattle.std.proofs.Common.{◌≡◌, ◌↔◌, ℕ, zero, suc, ◌+◌, ◌<◌, List, ◌++◌, map, true, Option, Some, None, length, get_or, refl, ap, sym, ◌∙◌, subst, arith, inl, inr, ⊎_elim}
+use Rattle.std.proofs.Common.{◌≡◌, ◌↔◌, ℕ, zero, suc, ◌+◌, ◌<◌, List, map, true, Option, Some, None, length, get_or, refl, ap, sym, ◌∙◌, subst, arith, inl, inr, ⊎_elim}
 use Rattle.std.specs.Prelude.{slice_get}
 use Rattle.std.specs.List.{All, Contains, filter_map}
-use Rattle.std.proofs.lemmas.List.Elements.{Contains-get_or, Contains-append_cases, Contains-append_right}
+use Rattle.std.proofs.lemmas.List.Elements.{Contains-get_or}
 use Rattle.std.specs.Option.{option_map}
 use Rattle.wasm_types.specs.declared.module.Module.{Module}
 use Rattle.wasm_types.specs.declared.place.Loc.{Loc}
@@ -29,7 +29,7 @@ use Rattle.call_graph.specs.Deeds as deed
 use Rattle.call_graph.specs.Built.{AreNodes, IsEdge, IsGraphBy}
 use Rattle.call_graph.specs.Edges.{functions, edge_of, target_of, Leads}
 use Rattle.call_graph.specs.Graph.{IsCallGraph, TellsCall, TellsCaller, TellsLoc}
-use Rattle.call_graph.specs.Labels.{label_of, own_at, wait_at, root_at, touch_by, touch_root, write_by, write_root}
+use Rattle.call_graph.specs.Labels.{label_of, own_at, root_at, touch_by, touch_root, write_by, write_root}
 use Rattle.call_graph.specs.Pairs.{HasPair}
 use Rattle.call_graph.specs.Tells.{TellsTargets}
 use Rattle.call_graph.proofs.Members.{in_map, in_picked, map_in, picked_in}
@@ -39,47 +39,29 @@ use Rattle.call_graph.proofs.Spreading.{edge_calls, pair_calls, call_edges, spre
 -- ---- labels
 
 loc_at : ℕ → Loc
-loc_at zero = Local 0
-loc_at (suc zero) = Mem
-loc_at (suc (suc zero)) = Size
-loc_at (suc (suc (suc zero))) = Host
-loc_at (suc (suc (suc (suc k)))) = Global k
+loc_at zero = Mem
+loc_at (suc zero) = Size
+loc_at (suc (suc zero)) = Host
+loc_at (suc (suc (suc k))) = Global k
 
 label_loc : (x : Loc) (o : ℕ) → label_of x ≡ Some o → x ≡ loc_at o
 unfolding loc_at
 label_loc (Local k) o e = absurd cc
-label_loc Mem o e = let z : 1 ≡ o = cc in subst (λ (n : ℕ). Mem ≡ loc_at n) z refl
-label_loc Size o e = let z : 2 ≡ o = cc in subst (λ (n : ℕ). Size ≡ loc_at n) z refl
-label_loc Host o e = let z : 3 ≡ o = cc in subst (λ (n : ℕ). Host ≡ loc_at n) z refl
+label_loc Mem o e = let z : 0 ≡ o = cc in subst (λ (n : ℕ). Mem ≡ loc_at n) z refl
+label_loc Size o e = let z : 1 ≡ o = cc in subst (λ (n : ℕ). Size ≡ loc_at n) z refl
+label_loc Host o e = let z : 2 ≡ o = cc in subst (λ (n : ℕ). Host ≡ loc_at n) z refl
 label_loc (Global k) o e =
-    let z : k + 4 ≡ o = cc in let y : suc (suc (suc (suc k))) ≡ o = omega arith in subst (λ (n : ℕ). Global k ≡ loc_at n) y refl
+    let z : k + 3 ≡ o = cc in let y : suc (suc (suc k)) ≡ o = omega arith in subst (λ (n : ℕ). Global k ≡ loc_at n) y refl
 
 same_loc : (x y : Loc) (o : ℕ) → label_of x ≡ Some o → label_of y ≡ Some o → x ≡ y
 same_loc x y o e f = label_loc x o e ∙ sym (label_loc y o f)
 
 has_label : (x : Loc) → is_outer x ≡ true → (o : ℕ) × (label_of x ≡ Some o)
 has_label (Local k) e = absurd cc
-has_label (Global k) e = (k + 4, refl)
-has_label Mem e = (1, refl)
-has_label Size e = (2, refl)
-has_label Host e = (3, refl)
-
-label_past : (x : Loc) (o : ℕ) → label_of x ≡ Some o → 0 < o
-label_past (Local k) o e = absurd cc
-label_past (Global k) o e = let z : k + 4 ≡ o = cc in omega arith
-label_past Mem o e = let z : 1 ≡ o = cc in omega arith
-label_past Size o e = let z : 2 ≡ o = cc in omega arith
-label_past Host o e = let z : 3 ≡ o = cc in omega arith
-
--- no node waits by a location's label
-not_waiting : (x : Loc) (o g : ℕ) (nodes : List ℕ) (roots : List Root) → label_of x ≡ Some o → IsRootOf (map wait_at nodes ++ roots) o g → IsRootOf roots o g
-not_waiting x o g nodes roots lab r = ⊎_elim
-    (λ k.
-    let w = map_in wait_at nodes (record { label = o; node = g }) k in
-    let z : 0 ≡ o = ap (λ (z : Root). z.label) w.1.1 in
-    let past = label_past x o lab in absurd (omega (arith, z, past)))
-    (λ k. k)
-    (Contains-append_cases (map wait_at nodes) roots (record { label = o; node = g }) r)
+has_label (Global k) e = (k + 3, refl)
+has_label Mem e = (0, refl)
+has_label Size e = (1, refl)
+has_label Host e = (2, refl)
 
 host_outer : (H : HostFunc) (x : Loc) → host_touches H x ≡ true → is_outer x ≡ true
 host_outer H (Local k) e = absurd cc
@@ -196,13 +178,13 @@ module _ (m : Module) (classes : Classes) (same : functions classes ≡ length (
     abbrev Spread : Pairs → List Root → Type 0
     Spread pairs roots = (x o : ℕ) → HasPair pairs x o ↔ ((x < functions classes) × graph.Reached (IsRootOf roots o) E x)
 
-    pub touches_tell : (pairs : Pairs) (roots : List Root) (nodes : List ℕ) → roots ≡ map wait_at nodes ++ filter_map touch_root acts → Spread pairs roots
+    pub touches_tell : (pairs : Pairs) (roots : List Root) → roots ≡ filter_map touch_root acts → Spread pairs roots
         → (f : ℕ) (x : Loc) → TellsLoc pairs f x ↔ MayTouch m f x
-    touches_tell pairs roots nodes are spread f x = (
+    touches_tell pairs roots are spread f x = (
       λ (o, (lab, has)).
           let s = (spread f o).0 has in
           spread_sound m classes same targets (λ (g : ℕ). MayTouch m g x) (call_touches m x) (IsRootOf roots o)
-          (λ g r. let does = touched_by x o lab g (not_waiting x o g nodes (filter_map touch_root acts) lab (rw are at r)) in (below g (does_below m g (Touches x) does), does_touch m g x does)) E edges f s.0 s.1,
+          (λ g r. let does = touched_by x o lab g (rw are at r) in (below g (does_below m g (Touches x) does), does_touch m g x does)) E edges f s.0 s.1,
       λ t.
           let g = touch_does m f x t in
           let lab = has_label x (touch_outer m g.0 x g.1.1) in
@@ -213,20 +195,20 @@ module _ (m : Module) (classes : Classes) (same : functions classes ≡ length (
               (spread f lab.0).1 (
                 below f (reached_below m f g.0 g.1.0 lt),
                 spread_complete m classes same targets (λ (g : ℕ). MayTouch m g x) (call_touches m x) (IsRootOf roots lab.0)
-                    (λ g r. let does = touched_by x lab.0 lab.1 g (not_waiting x lab.0 g nodes (filter_map touch_root acts) lab.1 (rw are at r)) in (below g (does_below m g (Touches x) does), does_touch m g x does)) E edges f g.0 g.1.0 lt
-                    (root (rw are (Contains-append_right (map wait_at nodes) (filter_map touch_root acts) (record { label = lab.0; node = g.0 }) (touch_is_root x lab.0 lab.1 g.0 g.1.1)))),
+                    (λ g r. let does = touched_by x lab.0 lab.1 g (rw are at r) in (below g (does_below m g (Touches x) does), does_touch m g x does)) E edges f g.0 g.1.0 lt
+                    (root (rw are (touch_is_root x lab.0 lab.1 g.0 g.1.1))),
               ),
             ),
           ),
     )
 
-    pub writes_tell : (pairs : Pairs) (roots : List Root) (nodes : List ℕ) → roots ≡ map wait_at nodes ++ filter_map write_root acts → Spread pairs roots
+    pub writes_tell : (pairs : Pairs) (roots : List Root) → roots ≡ filter_map write_root acts → Spread pairs roots
         → (f : ℕ) (x : Loc) → TellsLoc pairs f x ↔ MayWrite m f x
-    writes_tell pairs roots nodes are spread f x = (
+    writes_tell pairs roots are spread f x = (
       λ (o, (lab, has)).
           let s = (spread f o).0 has in
           spread_sound m classes same targets (λ (g : ℕ). MayWrite m g x) (call_writes m x) (IsRootOf roots o)
-          (λ g r. let does = written_by x o lab g (not_waiting x o g nodes (filter_map write_root acts) lab (rw are at r)) in (below g (does_below m g (Writes x) does), does_write m g x does)) E edges f s.0 s.1,
+          (λ g r. let does = written_by x o lab g (rw are at r) in (below g (does_below m g (Writes x) does), does_write m g x does)) E edges f s.0 s.1,
       λ t.
           let g = write_does m f x t in
           let lab = has_label x (write_outer m g.0 x g.1.1) in
@@ -237,8 +219,8 @@ module _ (m : Module) (classes : Classes) (same : functions classes ≡ length (
               (spread f lab.0).1 (
                 below f (reached_below m f g.0 g.1.0 lt),
                 spread_complete m classes same targets (λ (g : ℕ). MayWrite m g x) (call_writes m x) (IsRootOf roots lab.0)
-                    (λ g r. let does = written_by x lab.0 lab.1 g (not_waiting x lab.0 g nodes (filter_map write_root acts) lab.1 (rw are at r)) in (below g (does_below m g (Writes x) does), does_write m g x does)) E edges f g.0 g.1.0 lt
-                    (root (rw are (Contains-append_right (map wait_at nodes) (filter_map write_root acts) (record { label = lab.0; node = g.0 }) (write_is_root x lab.0 lab.1 g.0 g.1.1)))),
+                    (λ g r. let does = written_by x lab.0 lab.1 g (rw are at r) in (below g (does_below m g (Writes x) does), does_write m g x does)) E edges f g.0 g.1.0 lt
+                    (root (rw are (write_is_root x lab.0 lab.1 g.0 g.1.1))),
               ),
             ),
           ),
@@ -304,10 +286,10 @@ module _ (m : Module) (classes : Classes) (same : functions classes ≡ length (
         calls = calls_tell g b.same b.calls;
         callers = λ h f lh. callers_tell g turned h f (calls_tell g b.same b.calls f h lh);
         reached = reached_tell E edges g.reached (map own_at b.nodes) b.nodes refl b.are_nodes b.reached;
-        touches = touches_tell E edges g.touches (map wait_at b.nodes ++ filter_map touch_root acts) b.nodes refl b.touches;
+        touches = touches_tell E edges g.touches (filter_map touch_root acts) refl b.touches;
         members = subst (λ (z : Classes). (c f : ℕ) → Has g.members.items c f ↔ (slice_get z.by_func.items f ≡ Some (Some c))) (sym b.same) b.members;
         order = λ f. subst (λ (n : ℕ). Contains g.order.items f ↔ (f < n)) same (b.order f);
-        writes = writes_tell E edges g.writes (map wait_at b.nodes ++ filter_map write_root acts) b.nodes refl b.writes;
+        writes = writes_tell E edges g.writes (filter_map write_root acts) refl b.writes;
       }
 
 -- each function that does something is a function

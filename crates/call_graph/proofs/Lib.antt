@@ -14,3 +14,4 @@ pub mod BuildLemmas
 pub mod FewLemmas
 pub mod OrderLemmas
 pub mod ListLemmas
+pub mod RoundLemmas

@@ -81,11 +81,10 @@ module _ (n : ℕ) (order now : List ℕ) (i x : ℕ) (lt : i < length order) (h
         (Contains-push_cases (take i order) x y (rw upto at p.0)),
   )
 
-pub kept_turned : (n : ℕ) (order now last : List ℕ) → IsPermutation now last → ((y : ℕ) → Contains now y ↔ (Contains order y × (y < n)))
-    → (y : ℕ) → Contains last y ↔ (Contains order y × (y < n))
-kept_turned n order now last turned exact y = (
-  λ h. (exact y).0 (Contains-permutation last now y (IsPermutation-sym now last turned) h),
-  λ p. Contains-permutation now last y turned ((exact y).1 p),
+pub contains_turned : (now last : List ℕ) → IsPermutation now last → (P : ℕ → Type 0) → ((x : ℕ) → Contains now x ↔ P x) → (x : ℕ) → Contains last x ↔ P x
+contains_turned now last turned P exact x = (
+  λ h. (exact x).0 (Contains-permutation last now x (IsPermutation-sym now last turned) h),
+  λ p. Contains-permutation now last x turned ((exact x).1 p),
 )
 
 -- a list of a table

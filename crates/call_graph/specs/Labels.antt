@@ -8,17 +8,13 @@ use Rattle.call_graph.specs.declared.deeds.Deed.{Deed}
 use Rattle.call_graph.specs.declared.deeds.Deed.TheVariants.{Touches, Writes}
 use Rattle.call_graph.specs.declared.acts.Act.{Act}
 
--- the number of a location: none of a local, and 0 of no location
+-- the number of a location: none of a local
 abbrev pub label_of : Loc → Option ℕ
 label_of (loc.Local k) = None
-label_of loc.Mem = Some 1
-label_of loc.Size = Some 2
-label_of loc.Host = Some 3
-label_of (loc.Global k) = Some (k + 4)
-
--- what makes a node wait
-abbrev pub wait_at : ℕ → Root
-wait_at x = record { label = 0; node = x }
+label_of loc.Mem = Some 0
+label_of loc.Size = Some 1
+label_of loc.Host = Some 2
+label_of (loc.Global k) = Some (k + 3)
 
 -- a node's own number
 abbrev pub own_at : ℕ → Root

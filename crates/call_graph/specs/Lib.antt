@@ -8,6 +8,7 @@ pub mod Tells
 pub mod Pairs
 pub mod Edges
 pub mod Labels
+pub mod Rounds
 pub mod Orders
 pub mod Graph
 pub mod Built

@@ -19,7 +19,7 @@ use crate::acts::{Act, acts_of};
 use crate::classes::Classes;
 use crate::edges::{Edge, callers, count_nodes, edges_of, members_of};
 use crate::labels::{columns, label, own, touches, writes};
-use crate::order::{callees_first, order_of};
+use crate::order::{order_of, those_below};
 use crate::pairs::Pairs;
 use body_check::Spaces;
 use std::alloc::Global;
@@ -46,14 +46,16 @@ fn spread(
     alloc: Global,
     count: usize,
     callers: &ListGraph,
+    order: &[usize],
     roots: &[Root],
 ) -> Result<Pairs, NoMemory>
     requires count { count ≤ length callers.now.next.items }
+    requires order { (x : ℕ) → Contains order.now x ↔ (x < length callers.now.next.items) }
     requires nodes { All (λ (root : Root). root.node < length callers.now.next.items) roots.now }
     ensures { IfOk result (λ pairs. (x o : ℕ) → HasPair pairs x o ↔ ((x < count) × Reached (IsRootOf roots.now o) (Has callers.now.next.items) x)) }
 {
     let columns = columns(roots)?;
-    let pairs = Pairs::of_labels(alloc, count, columns, callers, roots)?;
+    let pairs = Pairs::of_labels(alloc, count, columns, callers, order, roots)?;
     Ok(pairs)
 }
 
@@ -63,7 +65,8 @@ fn order_by(alloc: Global, nodes: usize, edges: &[Edge]) -> Result<Vec<usize>, N
     ensures { IfOk result (λ order. (x : ℕ) → Contains order.items x ↔ (x < nodes)) }
 {
     let callers = callers(alloc, nodes, edges)?;
-    let order = order_of(alloc, callers)?;
+    let mut order = order_of(alloc, callers)?;
+    order.reverse();
     Ok(order)
 }
 
@@ -79,13 +82,13 @@ fn graph_by(alloc: Global, classes: Classes, acts: &[Act]) -> Result<CallGraph, 
     let order = order_by(alloc, nodes, &edges)?;
     let callers = callers(alloc, nodes, &edges)?;
     let numbered = own(alloc, &order)?;
-    let reached = spread(alloc, count, &callers, &numbered)?;
-    let touched = touches(alloc, &order, acts)?;
-    let touches = spread(alloc, count, &callers, &touched)?;
-    let written = writes(alloc, &order, acts)?;
-    let writes = spread(alloc, count, &callers, &written)?;
+    let reached = spread(alloc, count, &callers, &order, &numbered)?;
+    let touched = touches(alloc, acts)?;
+    let touches = spread(alloc, count, &callers, &order, &touched)?;
+    let written = writes(alloc, acts)?;
+    let writes = spread(alloc, count, &callers, &order, &written)?;
     let members = members_of(alloc, &classes)?;
-    let functions = callees_first(alloc, count, &order)?;
+    let functions = those_below(alloc, count, &order)?;
     Ok(CallGraph {
         classes,
         calls,

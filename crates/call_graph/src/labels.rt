@@ -1,9 +1,9 @@
 //! Locations and nodes as labels.
 
-ghost use Rattle.std.specs.Prelude.{◌≡◌, ◌++◌, ◌<◌, ◌≤◌, IfOk, map};
+ghost use Rattle.std.specs.Prelude.{◌≡◌, ◌<◌, ◌≤◌, IfOk, map};
 ghost use Rattle.std.specs.List.{All, filter_map};
 ghost use Rattle.worklist.specs.declared.labels.Root.{Root};
-ghost use Rattle.call_graph.specs.Labels.{label_of, own_at, touch_root, wait_at, write_root};
+ghost use Rattle.call_graph.specs.Labels.{label_of, own_at, touch_root, write_root};
 
 use crate::acts::Act;
 use crate::deeds::Deed;
@@ -11,19 +11,16 @@ use std::alloc::Global;
 use wasm_types::{Loc, NoMemory};
 use worklist::Root;
 
-/// What has the label 0, which is no location's, so that all nodes wait in their order.
-const WAITS: usize = 0;
-
 /// The number of a location: none of a local.
 pub(crate) fn label(loc: Loc) -> Option<usize>
     ensures { result ≡ label_of loc }
 {
     match loc {
         Loc::Local(_) => None,
-        Loc::Mem => Some(1),
-        Loc::Size => Some(2),
-        Loc::Host => Some(3),
-        Loc::Global(global) => Some(global as usize + 4),
+        Loc::Mem => Some(0),
+        Loc::Size => Some(1),
+        Loc::Host => Some(2),
+        Loc::Global(global) => Some(global as usize + 3),
     }
 }
 
@@ -75,27 +72,11 @@ pub(crate) fn own(alloc: Global, order: &[usize]) -> Result<Vec<Root>, NoMemory>
     Ok(roots)
 }
 
-/// Each node, so that it waits, in their order.
-fn waiting(alloc: Global, order: &[usize]) -> Result<Vec<Root>, NoMemory>
-    ensures { IfOk result (λ roots. roots.items ≡ map wait_at order.now) }
+/// Where the locations that functions touch by themselves begin. It fails only where an allocation is refused.
+pub(crate) fn touches(alloc: Global, acts: &[Act]) -> Result<Vec<Root>, NoMemory>
+    ensures { IfOk result (λ roots. roots.items ≡ filter_map touch_root acts.now) }
 {
     let mut roots = Vec::new(alloc);
-    for node in order {
-        roots
-            .push(Root {
-                label: WAITS,
-                node: *node,
-            })
-            .map_err(|_| NoMemory)?;
-    }
-    Ok(roots)
-}
-
-/// Where the locations that functions touch by themselves begin, behind all nodes in their order. It fails only where an allocation is refused.
-pub(crate) fn touches(alloc: Global, order: &[usize], acts: &[Act]) -> Result<Vec<Root>, NoMemory>
-    ensures { IfOk result (λ roots. roots.items ≡ map wait_at order.now ++ filter_map touch_root acts.now) }
-{
-    let mut roots = waiting(alloc, order)?;
     for act in acts {
         match touched(*act) {
             Some(root) => roots.push(root).map_err(|_| NoMemory)?,
@@ -105,11 +86,11 @@ pub(crate) fn touches(alloc: Global, order: &[usize], acts: &[Act]) -> Result<Ve
     Ok(roots)
 }
 
-/// Where the locations that functions write by themselves begin, behind all nodes in their order. It fails only where an allocation is refused.
-pub(crate) fn writes(alloc: Global, order: &[usize], acts: &[Act]) -> Result<Vec<Root>, NoMemory>
-    ensures { IfOk result (λ roots. roots.items ≡ map wait_at order.now ++ filter_map write_root acts.now) }
+/// Where the locations that functions write by themselves begin. It fails only where an allocation is refused.
+pub(crate) fn writes(alloc: Global, acts: &[Act]) -> Result<Vec<Root>, NoMemory>
+    ensures { IfOk result (λ roots. roots.items ≡ filter_map write_root acts.now) }
 {
-    let mut roots = waiting(alloc, order)?;
+    let mut roots = Vec::new(alloc);
     for act in acts {
         match written(*act) {
             Some(root) => roots.push(root).map_err(|_| NoMemory)?,

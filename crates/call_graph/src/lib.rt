@@ -10,6 +10,7 @@ mod hosts;
 mod labels;
 mod order;
 mod pairs;
+mod rounds;
 mod shape;
 
 pub use calls::{CallGraph, graph};

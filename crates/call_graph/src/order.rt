@@ -99,8 +99,8 @@ pub(crate) fn order_of(alloc: Global, graph: ListGraph) -> Result<Vec<usize>, No
     Ok(order)
 }
 
-/// Those of the numbers below a count, from the last one to the first.
-pub(crate) fn callees_first(
+/// Those of the numbers below a count, in their order.
+pub(crate) fn those_below(
     alloc: Global,
     count: usize,
     order: &[usize],
@@ -113,6 +113,5 @@ pub(crate) fn callees_first(
             funcs.push(*node).map_err(|_| NoMemory)?;
         }
     }
-    funcs.reverse();
     Ok(funcs)
 }

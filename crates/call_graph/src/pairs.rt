@@ -7,9 +7,10 @@ ghost use Rattle.worklist.specs.Reached.{Reached};
 ghost use Rattle.worklist.specs.Roots.{IsRootOf};
 
 use crate::edges::Edge;
+use crate::rounds::spread_labels;
 use std::alloc::Global;
 use wasm_types::NoMemory;
-use worklist::{BitRows, ListGraph, Root, reach_labels};
+use worklist::{BitRows, ListGraph, Root};
 
 /// Pairs of a row and a column.
 #[derive(Drop)]
@@ -61,14 +62,16 @@ impl Pairs {
         rows: usize,
         columns: usize,
         graph: &ListGraph,
+        order: &[usize],
         roots: &[Root],
     ) -> Result<Pairs, NoMemory>
         requires rows { rows ≤ length graph.now.next.items }
+        requires order { (x : ℕ) → Contains order.now x ↔ (x < length graph.now.next.items) }
         requires roots { All (λ root. (root.label < columns) × (root.node < length graph.now.next.items)) roots.now }
         ensures { IfOk result (λ pairs. (x o : ℕ) → HasPair pairs x o
             ↔ ((x < rows) × ((o < columns) × Reached (IsRootOf roots.now o) (Has graph.now.next.items) x))) }
     {
-        let bits = reach_labels(alloc, graph, columns, roots)?;
+        let bits = spread_labels(alloc, graph, order, columns, roots)?;
         Ok(Pairs {
             rows,
             columns,

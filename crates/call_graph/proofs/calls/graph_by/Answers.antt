@@ -1,11 +1,9 @@
-use Rattle.std.proofs.Common.{◌≡◌, ◌↔◌, ◌<◌, ◌≤◌, ◌++◌, ℕ, List, map, refl, sym, subst, ◌∙◌, arith}
+use Rattle.std.proofs.Common.{◌≡◌, ◌↔◌, ◌<◌, ◌≤◌, ℕ, List, map, refl, sym, subst, ◌∙◌, arith}
 use Rattle.std.specs.List.{Contains, filter_map}
-use Rattle.std.proofs.lemmas.List.Elements.{All-append}
-use Rattle.worklist.specs.declared.labels.Root.{Root}
 use Rattle.worklist.specs.Lists.{Has}
 use Rattle.call_graph.specs.Edges.{functions}
-use Rattle.call_graph.specs.Labels.{own_at, wait_at, touch_root, write_root}
-use Rattle.call_graph.proofs.BuildLemmas.{all_to, all_within, calls_by, own_nodes, spread_by, touch_nodes, turned_by, wait_nodes, write_nodes}
+use Rattle.call_graph.specs.Labels.{own_at, touch_root, write_root}
+use Rattle.call_graph.proofs.BuildLemmas.{all_to, all_within, calls_by, own_nodes, spread_by, touch_nodes, turned_by, write_nodes}
 use Rattle.call_graph.proofs.calls.graph_by.Goals as goal
 
 pub of_edges-requires : goal.of_edges-requires
@@ -26,33 +24,36 @@ callers-requires c =
     rw c.deref-3.ensures.value (all_within classes c.args.acts.now c.in_ok-edges.edges.items c.in_ok-edges.ensures c.requires classes.below_func classes.below_type
     c.count_nodes-nodes.result c.count_nodes-nodes.ensures)
 
+pub spread-requires-clause-order : goal.spread-requires-clause-order
+spread-requires-clause-order c = rw (c.deref-5.ensures.value, c.in_ok-callers.ensures.length) c.in_ok-order.ensures
+
+pub spread-requires-2-clause-order : goal.spread-requires-2-clause-order
+spread-requires-2-clause-order c = rw (c.deref-7.ensures.value, c.in_ok-callers.ensures.length) c.in_ok-order.ensures
+
+pub spread-requires-3-clause-order : goal.spread-requires-3-clause-order
+spread-requires-3-clause-order c = rw (c.deref-9.ensures.value, c.in_ok-callers.ensures.length) c.in_ok-order.ensures
+
 pub spread-requires-clause-nodes : goal.spread-requires-clause-nodes
 spread-requires-clause-nodes c =
     let own : c.in_ok-numbered.numbered.items ≡ map own_at c.in_ok-order.order.items = rw c.deref-4.ensures.value at c.in_ok-numbered.ensures in
-    rw (c.deref-5.ensures.value, c.in_ok-callers.ensures.length) (own_nodes c.in_ok-order.order.items c.count_nodes-nodes.result c.in_ok-order.ensures
+    rw (c.deref-6.ensures.value, c.in_ok-callers.ensures.length) (own_nodes c.in_ok-order.order.items c.count_nodes-nodes.result c.in_ok-order.ensures
     c.in_ok-numbered.numbered.items own)
 
 pub spread-requires-2-clause-nodes : goal.spread-requires-2-clause-nodes
 spread-requires-2-clause-nodes c =
-    let acts = c.args.acts.now in
     let nodes = c.count_nodes-nodes.result in
-    let order = c.in_ok-order.order.items in
     let n = functions c.args.classes in
     let le : n ≤ nodes = omega (arith, c.count_nodes-nodes.ensures) in
-    let are : c.in_ok-touched.touched.items ≡ map wait_at order ++ filter_map touch_root acts = rw c.deref-6.ensures.value at c.in_ok-touched.ensures in
-    rw (c.deref-7.ensures.value, c.in_ok-callers.ensures.length, are) (All-append (λ (r : Root). r.node < nodes) (map wait_at order) (filter_map touch_root acts)
-    (wait_nodes order nodes c.in_ok-order.ensures) (touch_nodes acts n nodes le c.requires (filter_map touch_root acts) refl))
+    rw (c.deref-8.ensures.value, c.in_ok-callers.ensures.length) (touch_nodes c.args.acts.now n nodes le c.requires c.in_ok-touched.touched.items
+    c.in_ok-touched.ensures)
 
 pub spread-requires-3-clause-nodes : goal.spread-requires-3-clause-nodes
 spread-requires-3-clause-nodes c =
-    let acts = c.args.acts.now in
     let nodes = c.count_nodes-nodes.result in
-    let order = c.in_ok-order.order.items in
     let n = functions c.args.classes in
     let le : n ≤ nodes = omega (arith, c.count_nodes-nodes.ensures) in
-    let are : c.in_ok-written.written.items ≡ map wait_at order ++ filter_map write_root acts = rw c.deref-8.ensures.value at c.in_ok-written.ensures in
-    rw (c.deref-9.ensures.value, c.in_ok-callers.ensures.length, are) (All-append (λ (r : Root). r.node < nodes) (map wait_at order) (filter_map write_root acts)
-    (wait_nodes order nodes c.in_ok-order.ensures) (write_nodes acts n nodes le c.requires (filter_map write_root acts) refl))
+    rw (c.deref-10.ensures.value, c.in_ok-callers.ensures.length) (write_nodes c.args.acts.now n nodes le c.requires c.in_ok-written.written.items
+    c.in_ok-written.ensures)
 
 pub returns : goal.returns
 returns c =
@@ -66,8 +67,6 @@ returns c =
     let turned : (x y : ℕ) → Has next x y ↔ Contains edges (record { from = y; to = x }) =
     turned_by classes acts edges exact next c.deref-3.result.now c.deref-3.ensures.value c.in_ok-callers.ensures.exact in
     let own : c.in_ok-numbered.numbered.items ≡ map own_at order = rw c.deref-4.ensures.value at c.in_ok-numbered.ensures in
-    let touched : c.in_ok-touched.touched.items ≡ map wait_at order ++ filter_map touch_root acts = rw c.deref-6.ensures.value at c.in_ok-touched.ensures in
-    let written : c.in_ok-written.written.items ≡ map wait_at order ++ filter_map write_root acts = rw c.deref-8.ensures.value at c.in_ok-written.ensures in
     record {
       nodes = order;
       are_nodes = λ x. subst (λ (n : ℕ). Contains order x ↔ (x < n)) c.count_nodes-nodes.ensures (c.in_ok-order.ensures x);
@@ -78,20 +77,20 @@ returns c =
         λ e. (turned y f).1 ((exact (record { from = f; to = y })).1 e),
       );
       reached =
-          spread_by classes acts edges exact next (map own_at order) c.deref-5.result.now c.in_ok-reached.reached c.len-count.result count
-          (c.deref-5.ensures.value ∙ own) turned c.in_ok-reached.ensures;
+          spread_by classes acts edges exact next (map own_at order) c.deref-6.result.now c.in_ok-reached.reached c.len-count.result count
+          (c.deref-6.ensures.value ∙ own) turned c.in_ok-reached.ensures;
       touches =
-          spread_by classes acts edges exact next (map wait_at order ++ filter_map touch_root acts) c.deref-7.result.now c.in_ok-touches.touches
-          c.len-count.result count (c.deref-7.ensures.value ∙ touched) turned c.in_ok-touches.ensures;
+          spread_by classes acts edges exact next (filter_map touch_root acts) c.deref-8.result.now c.in_ok-touches.touches c.len-count.result count
+          (c.deref-8.ensures.value ∙ c.in_ok-touched.ensures) turned c.in_ok-touches.ensures;
       writes =
-          spread_by classes acts edges exact next (map wait_at order ++ filter_map write_root acts) c.deref-9.result.now c.in_ok-writes.writes
-          c.len-count.result count (c.deref-9.ensures.value ∙ written) turned c.in_ok-writes.ensures;
+          spread_by classes acts edges exact next (filter_map write_root acts) c.deref-10.result.now c.in_ok-writes.writes c.len-count.result count
+          (c.deref-10.ensures.value ∙ c.in_ok-written.ensures) turned c.in_ok-writes.ensures;
       members = c.in_ok-members.ensures;
       order = λ f. (
         λ h. subst (λ (n : ℕ). f < n) count ((c.in_ok-functions.ensures f).0 h).1,
         λ lt.
             let within : f < c.count_nodes-nodes.result = omega (arith, lt, c.count_nodes-nodes.ensures) in
             (c.in_ok-functions.ensures f).1
-            (subst (λ (xs : List ℕ). Contains xs f) (sym c.deref-10.ensures.value) ((c.in_ok-order.ensures f).1 within), subst (λ (n : ℕ). f < n) (sym count) lt),
+            (subst (λ (xs : List ℕ). Contains xs f) (sym c.deref-11.ensures.value) ((c.in_ok-order.ensures f).1 within), subst (λ (n : ℕ). f < n) (sym count) lt),
       );
     }

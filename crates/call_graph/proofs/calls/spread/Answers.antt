@@ -6,6 +6,7 @@ use Rattle.call_graph.proofs.calls.spread.Goals as goal
 pub of_labels-requires : goal.of_labels-requires
 of_labels-requires c = record {
   rows = c.requires.count;
+  order = c.requires.order;
   roots = both_all c.args.roots.now c.in_ok-columns.columns (length c.args.callers.now.next.items) c.in_ok-columns.ensures c.requires.nodes;
 }
 

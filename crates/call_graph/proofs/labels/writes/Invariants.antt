@@ -1,7 +1,7 @@
-use Rattle.std.proofs.Common.{◌≡◌, ◌++◌, map, take}
+use Rattle.std.proofs.Common.{◌≡◌, take}
 use Rattle.std.specs.List.{filter_map}
-use Rattle.call_graph.specs.Labels.{wait_at, write_root}
+use Rattle.call_graph.specs.Labels.{write_root}
 use Rattle.call_graph.proofs.labels.writes.Given as goal
 
 abbrev pub invariant-loop-act : goal.invariant-loop-act
-invariant-loop-act l = l.roots.items ≡ map wait_at l.order ++ filter_map write_root (take l.act-index l.acts)
+invariant-loop-act l = l.roots.items ≡ filter_map write_root (take l.act-index l.acts)

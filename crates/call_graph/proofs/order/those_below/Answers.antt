@@ -1,9 +1,9 @@
 use Rattle.std.proofs.Common.{rules, ◌≡◌, ◌↔◌, ◌<◌, ◌++◌, ◌∷◌, [], ℕ, List, take, get_or, refl, subst, arith}
 use Rattle.std.specs.List.{Contains}
 use Rattle.std.proofs.Math.Seq.{take_all}
-use Rattle.call_graph.proofs.ListLemmas.{kept_more, kept_skip, kept_turned}
-use Rattle.call_graph.proofs.order.callees_first.Goals as goal
-use Rattle.call_graph.proofs.order.callees_first.Goals.{then-node-count+in_ok-map_err, else-node-count}
+use Rattle.call_graph.proofs.ListLemmas.{kept_more, kept_skip}
+use Rattle.call_graph.proofs.order.those_below.Goals as goal
+use Rattle.call_graph.proofs.order.those_below.Goals.{then-node-count+in_ok-map_err, else-node-count}
 
 pub loop-node-preserved : goal.loop-node-preserved
 loop-node-preserved c =
@@ -22,5 +22,4 @@ loop-node-preserved c =
 pub returns : goal.returns
 returns c =
     let whole : take c.loop-node.node-index c.args.order.now ≡ c.args.order.now = take_all c.loop-node.node-index c.args.order.now (omega arith) in
-    kept_turned c.args.count c.args.order.now c.loop-node.funcs.items c.reverse.new.self.items c.reverse.ensures.permutation
-    (subst (λ (xs : List ℕ). (y : ℕ) → Contains c.loop-node.funcs.items y ↔ (Contains xs y × (y < c.args.count))) whole c.loop-node.invariant)
+    subst (λ (xs : List ℕ). (y : ℕ) → Contains c.loop-node.funcs.items y ↔ (Contains xs y × (y < c.args.count))) whole c.loop-node.invariant
