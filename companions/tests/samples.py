@@ -111,6 +111,11 @@ def recursive():
     return module([(0, 0)], [(0, body(code)) for code in calls], [("top", 3)])
 
 
+def invalid():
+    """A function that leaves no value where it has to."""
+    return module([(0, 1)], [(0, body(b""))], [("empty", 0)])
+
+
 def many(count):
     """So many functions, each with control, memory and arithmetic, and with a name."""
     one = bench.sized(bench.mixed_body(1))

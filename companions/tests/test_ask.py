@@ -79,6 +79,10 @@ class Ask(InFolder):
         self.assertEqual(said.output.splitlines()[1:3], ["f 2 print g0 (stack) <- g0 (stack)", "f 2 print mem <- p0 g0 (stack) mem size host"])
         self.assertEqual(len(companion("ask", self.library, "summary").output.splitlines()), 18)
 
+    def test_summary_of_an_imported_function(self):
+        said = companion("ask", self.library, "summary", "env.write")
+        self.assertEqual((said.status, said.output.splitlines()[0]), (0, "f 0 env.write result <- p0 p1 mem size host"))
+
     def test_summary_as_json(self):
         said = companion("ask", "--json", self.library, "summary", "print")
         told = json.loads(said.output)
@@ -86,9 +90,6 @@ class Ask(InFolder):
         self.assertEqual(told["function"], {"number": 2, "names": [{"name": "print", "from": "export"}]})
         self.assertEqual(told["answer"]["rows"][1]["output"], {"output": "g0", "name": "stack"})
         self.assertEqual(from_json(told["answer"]).text().splitlines()[0], "f 2 result <- p0 mem")
-
-    def test_a_program_without_summaries(self):
-        self.assert_one_line(companion("ask", self.written(samples.countdown()), "summary", "count"), 2, "refuses the word summary")
 
     def test_status_and_line_of_the_program(self):
         self.assert_one_line(companion("ask", self.library, "summary", "9"), 6, "wassail: query refused: no function 9")
@@ -136,7 +137,7 @@ class Recorded(InFolder):
         self.assertEqual(json.loads(companion("ask", "--json", self.countdown, "check").output)["answer"], {"text": "valid\n"})
 
     def test_a_module_that_does_not_read(self):
-        for words in (["check"], ["list", "0"], ["list", "count"]):
+        for words in (["check"], ["list", "0"], ["list", "count"], ["summary"]):
             self.assert_one_line(companion("ask", self.broken, *words), 1, "wassail: module refused: no module header")
 
     def test_list(self):
@@ -167,7 +168,7 @@ class Recorded(InFolder):
         self.assert_one_line(companion("ask", self.countdown, "kept", "count", "99"), 6, "wassail: query refused: no instruction 99, function has 16")
 
     def test_the_same_as_json(self):
-        for words in (["list", "count"], ["kept", "count", "13"], ["trace", "count", "13", "20000", "3"]):
+        for words in (["list", "count"], ["summary"], ["summary", "count"], ["kept", "count", "13"], ["trace", "count", "13", "20000", "3"]):
             told = json.loads(companion("ask", "--json", self.countdown, *words).output)
             naming = naming_of(read_module(samples.countdown()))
             text = "".join(f"{line}\n" for line in named_lines(naming, 0, from_json(told["answer"])))

@@ -1,6 +1,5 @@
 """`overview`: groups, rows, what stands for a picture that can't be drawn, and time."""
 import resource
-import time
 import unittest
 from unittest import mock
 
@@ -89,11 +88,12 @@ class Overview(InFolder):
         self.assertEqual({"f0", "f1", "f2"} - set(page.ids), set())
         self.assertTrue(all(link[1:] in page.ids for link in page.links))
 
-    def test_a_program_without_summaries(self):
-        said, text = self.page_of(samples.countdown())
-        self.assertIn("overview: the program refuses the word summary", said.error)
-        self.assertIn("wassail: words refused", Page(text).text)
-        self.assertIn("count", Page(text).text)
+    def test_a_module_that_is_refused(self):
+        said, text = self.page_of(samples.invalid())
+        self.assertEqual(said.error, "overview: wassail: module refused: invalid function 0\n")
+        page = Page(text)
+        self.assertIn("The program gives no answer to wassail summary < module: wassail: module refused: invalid function 0", page.text)
+        self.assertIn("empty", page.text)
 
     def test_groups(self):
         page = Page(self.page_of(samples.recursive())[1])
@@ -120,28 +120,15 @@ class Overview(InFolder):
         self.assert_one_line(companion("overview", broken, "-o", self.folder / "o.html"), 1, "wassail: module refused: no module header")
 
     def test_two_thousand_functions_in_a_second(self):
-        """A second of processor time, picture and stub included; the stub has no summary of them, so rows are left to the next test."""
+        """A second of processor time for the page and its picture. What answers has the rows ready, ten thousand of them."""
+        rows = self.folder / "rows"
+        rows.write_text("".join(f"f {number} {output} <- p0 p1 g0 mem size\n" for number in range(2000) for output in ("result", "g0", "mem", "size", "done")))
+        ready = self.written(f"#!/bin/sh\n[ $1 = check ] && echo valid || exec cat {rows}\n".encode(), "ready")
+        ready.chmod(0o755)
         begun = processor_time()
-        page = self.page_of(samples.many(2000))[1]
+        text = self.page_of(samples.many(2000), program=ready)[1]
         self.assertLess(processor_time() - begun, 1.0)
-        self.assertEqual(sum(one.startswith("f") and one[1:].isdigit() for one in Page(page).ids), 2000)
-
-
-class ManyRows(unittest.TestCase):
-    def test_ten_thousand_rows_in_a_second(self):
-        from wassail_companions.answers import read_answer
-        from wassail_companions.code import survey
-        from wassail_companions.overview_page import Overview as Shown
-        from wassail_companions.overview_page import overview_page
-        from wassail_companions.program import Answer
-
-        module = read_module(samples.many(2000))
-        text = "".join(f"f {number} {output} <- p0 p1 g0 mem size\n" for number in range(2000) for output in ("result", "g0", "mem", "size", "done"))
-        begun = time.process_time()
-        rows = read_answer("summary", text)
-        answer = Answer(("summary",), 0, text.encode(), b"")
-        codes = [survey(module.data, function.body) for function in module.functions]
-        picture = call_graph.Picture(None, "")
-        page = overview_page(Shown("many", module, naming_of(module), answer, answer, rows, codes, call_graph.groups_of([one.calls for one in codes]), picture))
-        self.assertLess(time.process_time() - begun, 1.0)
-        self.assertLess(len(page), 4 << 20)
+        self.assertLess(len(text), 4 << 20)
+        page = Page(text)
+        self.assertEqual(sum(one.startswith("f") and one[1:].isdigit() for one in page.ids), 2000)
+        self.assertEqual(page.text.count("done ← p0, p1, g0, mem, size"), 2000)

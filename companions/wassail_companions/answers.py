@@ -1,6 +1,6 @@
 """The program's texts as values: each is read from the text, and written back as the same text.
 
-The texts are those of docs/COMMANDS.md, and for `summary` one line `f N OUT <- IN ..` for each output of a function. A text that doesn't read so gives none."""
+The texts are those of docs/COMMANDS.md. A text that doesn't read so gives none."""
 from __future__ import annotations
 
 import re
