@@ -1,6 +1,7 @@
 """`view`: offsets, reasons, the two listings side by side, and what the page must not take from names."""
 import re
 import unittest
+from xml.etree import ElementTree
 
 import samples
 from support import InFolder, Page, companion, needs, objdump_offsets
@@ -10,6 +11,7 @@ from wassail_companions.answers import read_answer
 from wassail_companions.module import read_module
 from wassail_companions.offsets import line_offsets
 from wassail_companions.reasons import reasons_of
+from wassail_companions.slice_picture import SOFT, STRONG
 from wassail_companions.structure import placed_lines
 
 ZEROS = """0 block i32
@@ -191,6 +193,29 @@ class View(InFolder):
         _, text = self.page_of(samples.zeros(), "zeros", "6")
         rows = [row for _, row in Page(text).rows if len(row) == 10]
         self.assertIn(["● kept", "2", "000030", "  i32.const 0", "", "operand of 4", "2", "00004f", "  i32.const 0", ""], rows)
+
+    def texts_of(self, data, *words):
+        """The texts of a picture with their colours."""
+        out = self.folder / "view.svg"
+        said, _ = self.page_of(data, *words, "--picture", out)
+        self.assertEqual(said.error, "")
+        return [(one.text, one.get("fill")) for one in ElementTree.parse(out).iter("{http://www.w3.org/2000/svg}text")]
+
+    def test_a_picture(self):
+        texts = self.texts_of(samples.countdown(), "count", "13")
+        self.assertEqual(texts[:2], [("function 0 count", STRONG), ("its slice", STRONG)])
+        self.assertEqual(sum(text == "▶" for text, _ in texts), 1)
+        self.assertEqual(sum(text == "●" for text, _ in texts), 9)
+        self.assertIn(("local.set 1 (sum) <- 7", SOFT), texts)
+        sets = [text for text, colour in texts if text.startswith("local.set 0") and colour == STRONG]
+        self.assertEqual(sets, ["local.set 0 (left) <- 12", "local.set 0 (left) <- 7"])
+        self.assertIn((f"function 0 {samples.HOSTILE}", STRONG), self.texts_of(samples.hostile(), "0", "0"))
+
+    def test_no_picture_without_a_slice(self):
+        out = self.folder / "view.svg"
+        said, _ = self.page_of(samples.library(), "print", "9", "--picture", out)
+        self.assertIn("view: there is no picture, since there is no slice", said.error)
+        self.assertFalse(out.exists())
 
     def test_a_refused_slice_is_shown(self):
         said, text = self.page_of(samples.library(), "print", "9")

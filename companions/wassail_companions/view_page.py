@@ -104,7 +104,7 @@ def _head(view: View, title: str) -> Iterator[str]:
 
 def _listings(view: View) -> Iterator[str]:
     slice_side = view.sliced.side
-    pairs = _pairs_of(view)
+    pairs = pairs_of(view)
     yield '<main id="listing">\n<h2>' + ("The function and its slice" if slice_side else "The function") + "</h2>\n"
     yield sources(*_answers_shown(view))
     yield from _legend(view, pairs is not None)
@@ -147,7 +147,8 @@ def _legend(view: View, is_aligned: bool) -> Iterator[str]:
         yield '<p class="source">Offsets are those of <code>wasm-objdump -d</code>, in each file; they are no answer of the program.</p>\n'
 
 
-def _pairs_of(view: View) -> list[Pair] | None:
+def pairs_of(view: View) -> list[Pair] | None:
+    """The function's lines and the slice's, side by side; none where there is no slice, or the two don't fit together."""
     sliced = view.sliced
     if sliced.side is None or sliced.criterion is None or view.kept_nodes is None:
         return None
@@ -180,7 +181,12 @@ def _kind_of(view: View, pair: Pair) -> str:
         return "kept criterion"
     if view.kept_nodes is None or pair.left is None:
         return "plain"
-    return "kept" if pair.is_same or _node_of(pair.left) in view.kept_nodes else "cut"
+    return "kept" if is_kept(view, pair) else "cut"
+
+
+def is_kept(view: View, pair: Pair) -> bool:
+    """Whether a line of the function stays, as what is kept or around it."""
+    return pair.is_same or (pair.left is not None and _node_of(pair.left) in (view.kept_nodes or ()))
 
 
 def _node_of(one: Placed) -> str:
@@ -190,7 +196,8 @@ def _node_of(one: Placed) -> str:
     return f"j{one.closes}" if one.line.instruction == "end" and one.closes is not None else ""
 
 
-def _mark(view: View, one: Placed) -> str:
+def mark_of(view: View, one: Placed) -> str:
+    """A sign and a word for a line of the function; nothing where it is cut."""
     if one.line.position == view.criterion:
         return "▶ criterion"
     node = _node_of(one)
@@ -216,7 +223,7 @@ def _position(line: ListingLine) -> str:
 def _left_cells(view: View, one: Placed, offset: str, reasons: dict[str, list[Reason]]) -> str:
     line = one.line
     why = "; ".join(f"{escaped(reason.why)} {_links(reason.nodes)}".rstrip() for reason in reasons.get(_node_of(one), []))
-    place = cell(_mark(view, one), "mark") + cell(_position(line), "number") + cell(offset, "number soft")
+    place = cell(mark_of(view, one), "mark") + cell(_position(line), "number") + cell(offset, "number soft")
     text = cell("  " * line.depth + escaped(instruction_with_name(view.naming, view.function, line)), "code")
     return place + text + cell(" ".join(_link(maker) for maker in line.makers), "code") + cell(why, "why")
 
