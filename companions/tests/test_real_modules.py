@@ -1,4 +1,6 @@
 """Real modules: those of the folders in WASSAIL_MODULES, and the C library that tools/integer-library links."""
+import json
+import re
 import shutil
 import subprocess
 import tempfile
@@ -11,12 +13,13 @@ from wassail_companions.alignment import aligned
 from wassail_companions.answers import read_answer
 from wassail_companions.code import instructions, survey
 from wassail_companions.module import read_module
+from wassail_companions.named_texts import from_json
 from wassail_companions.offsets import line_offsets
 from wassail_companions.program import Program
 from wassail_companions.reasons import reasons_of
 from wassail_companions.structure import placed_lines
 
-FUNCTIONS, POSITIONS = 12, 3
+FUNCTIONS, POSITIONS, VIEWS, OVERVIEW_CELLS = 12, 3, 4, 7
 
 
 def spread(things, count):
@@ -120,14 +123,67 @@ class RealModules(InFolder):
         return compared
 
     @needs_program()
-    def test_view_of_a_real_function(self):
-        program = Program(BUILT, "tests")
+    def test_view_shows_the_program_s_answers(self):
+        """The page has the lines of the listing, and marks as kept what the program answers."""
+        program, marked = Program(BUILT, "tests"), 0
         for path in self.modules:
             data = path.read_bytes()
-            if program.ask(data, "check").status != 0:
+            if program.ask(data, "check").status == 0:
+                own = [one.number for one in read_module(data).functions if one.body is not None]
+                marked += sum(self.compare_view(program, path, data, function) for function in spread(own, VIEWS))
+        self.assertGreater(marked, 0)
+
+    def compare_view(self, program, path, data, function):
+        """How many nodes are kept for the function's last live position."""
+        lines = read_answer("list", program.ask(data, "list", str(function)).text).lines
+        live = [line for line in lines if line.position is not None and not line.is_dead]
+        if not live:
+            return 0
+        position, out = live[-1].position, self.folder / "view.html"
+        said = companion("view", path, function, position, "-o", out, program=BUILT)
+        self.assertEqual(said.status, 0, said.error)
+        page = Page(out.read_text(encoding="utf-8"))
+        self.assertIn(f"wassail list {function} < {path.name}", page.text)
+        shown = {cells[1]: cells for _, cells in page.rows if len(cells) > 5 and cells[1].isdigit()}
+        for line in live:
+            self.assertTrue(shown[str(line.position)][3].strip().startswith(line.instruction), f"{path.name}: function {function}: {line}")
+        nodes = program.ask(data, "kept", str(function), str(position)).text.split()
+        kept = {at for at, cells in shown.items() if cells[0].startswith(("●", "▶"))}
+        self.assertEqual(kept, {node for node in nodes if not node.startswith("j")} or {str(position)})
+        return len(nodes)
+
+    @needs_program()
+    def test_summaries(self):
+        """`ask` gives all rows as JSON, the page of a module has the same ones, and the rows of one function are those among them."""
+        program, out = Program(BUILT, "tests"), self.folder / "overview.html"
+        for path in self.modules:
+            data = path.read_bytes()
+            answer = program.ask(data, "summary")
+            if answer.status != 0:
+                self.assertEqual((answer.status, answer.line), (program.ask(data, "check").status, program.ask(data, "check").line))
                 continue
-            own = [function.number for function in read_module(data).functions if function.body is not None]
-            out = self.folder / "view.html"
-            said = companion("view", path, own[-1], "0", "-o", out, program=BUILT)
+            rows = read_answer("summary", answer.text).rows
+            told = json.loads(companion("ask", "--json", path, "summary", program=BUILT).output)
+            self.assertEqual(from_json(told["answer"]).rows, rows)
+            said = companion("overview", path, "-o", out, program=BUILT)
             self.assertEqual(said.status, 0, said.error)
-            self.assertIn(f"wassail list {own[-1]} < {path.name}", Page(out.read_text(encoding="utf-8")).text)
+            page = Page(out.read_text(encoding="utf-8"))
+            shown = {int(cells[0]): rows_told(cells[-1]) for _, cells in page.rows if len(cells) == OVERVIEW_CELLS and cells[0].isdigit()}
+            expected = {number: {} for number in range(len(read_module(data).functions))}
+            for row in rows:
+                expected[row.function][row.output] = row.inputs
+            self.assertEqual(shown, expected, path.name)
+            one = rows[len(rows) // 2].function
+            self.assertEqual(read_answer("summary", program.ask(data, "summary", str(one)).text).rows, [row for row in rows if row.function == one])
+
+
+def rows_told(text):
+    """The rows that a function's cell has, without names: outputs with their inputs."""
+    rows = {}
+    for line in re.sub(r" \([^()]*\)", "", re.sub(r"^\d+ outputs", "", text)).splitlines():
+        if line.startswith("only on itself each: "):
+            rows |= {output: (output,) for output in line.removeprefix("only on itself each: ").split(", ")}
+        elif " ← " in line:
+            output, inputs = line.split(" ← ")
+            rows[output] = () if inputs == "nothing" else tuple(inputs.split(", "))
+    return rows
