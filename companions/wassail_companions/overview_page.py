@@ -102,7 +102,8 @@ def _functions(overview: Overview) -> Iterator[str]:
     if overview.rows is not None:
         yield "<p>Each line names an output, and the inputs that it depends on at most: parameters <code>p</code>, globals <code>g</code>, the memory's"
         yield " bytes <code>mem</code>, its <code>size</code>, and the <code>host</code>. In runs that return, an input that a line leaves out has no"
-        yield " influence on its output.</p>\n"
+        yield " influence on its output. <code>done</code> is that the function returns: where starts differ only in what its line leaves out, and one run"
+        yield " returns, the other does.</p>\n"
     yield '<p class="source">Numbers, names, types, bytes, positions and calls are read from the file.</p>\n'
     yield '<p class="controls"><label for="filter">Filter by name or number:</label> <input type="search" id="filter"> '
     yield '<span id="told" role="status" class="soft"></span> '
