@@ -34,8 +34,24 @@ pub fn end(
 {
     let words = owned(rt, words)?;
     let mut source = source(rt, bytes, piece, read_fails)?;
-    let mut out = sink(rt, 5, out_fails)?;
-    let mut err = sink(rt, 7, NEVER)?;
+    let mut out = sink(rt, 4096, 5, out_fails)?;
+    let mut err = sink(rt, 4096, 7, NEVER)?;
+    call(rt, &words, &mut source, &mut out, &mut err)
+}
+
+/// What a call gives where nothing is read in vain, out has this room and fails at this call in pieces of 5, and err fails at this one.
+pub fn end_of_sinks(
+    rt: &HostRuntime,
+    words: &[&str],
+    bytes: &[u8],
+    room: usize,
+    out_fails: u32,
+    err_fails: u32,
+) -> Result<Ending, Fail> {
+    let words = owned(rt, words)?;
+    let mut source = source(rt, bytes, 3, NEVER)?;
+    let mut out = sink(rt, room, 5, out_fails)?;
+    let mut err = sink(rt, 4096, 7, err_fails)?;
     call(rt, &words, &mut source, &mut out, &mut err)
 }
 
@@ -57,12 +73,12 @@ fn source(rt: &HostRuntime, bytes: &[u8], piece: usize, fails: u32) -> Result<Me
     Ok(MemSource::new(bytes, piece, fails))
 }
 
-// A sink that takes pieces of this size, and fails at this call.
-fn sink(rt: &HostRuntime, piece: usize, fails: u32) -> Result<MemSink, Fail>
+// A sink with this room that takes pieces of this size, and fails at this call.
+fn sink(rt: &HostRuntime, room: usize, piece: usize, fails: u32) -> Result<MemSink, Fail>
     requires { 1 ≤ piece }
 {
     let fails = vec![in rt.alloc(); fails]?;
-    match MemSink::new(rt.alloc(), 4096, piece, fails) {
+    match MemSink::new(rt.alloc(), room, piece, fails) {
         Ok(sink) => Ok(sink),
         Err(_) => Err("no memory")?,
     }

@@ -150,6 +150,29 @@ fn tells_what_a_position_depends_on(rt: HostRuntime) -> Result<(), Fail> {
     Ok(())
 }
 
+// One function `() -> ()` with 8,192 locals, that sets them in turn, 49,999 times, each to 1, and then reads the first: 100,000 positions.
+fn many_sets(rt: &HostRuntime) -> Result<Vec<u8>, Fail> {
+    let mut bytes =
+        b"\0asm\x01\0\0\0\x01\x04\x01\x60\x00\x00\x03\x02\x01\x00\x0A\x97\xA1\x0F\x01\x93\xA1\x0F\x01\x80\x40\x7F".to_vec(
+            rt.alloc(),
+        )?;
+    for set in 0..49999u32 {
+        let local = set % 8192;
+        bytes.extend_from_slice(b"\x41\x01\x21")?;
+        bytes.push((local % 128 + 128) as u8)?;
+        bytes.push((local / 128) as u8)?;
+    }
+    bytes.extend_from_slice(b"\x20\x00\x1A\x0B")?;
+    Ok(bytes)
+}
+
+#[test]
+fn tells_what_the_last_of_many_positions_depends_on(rt: HostRuntime) -> Result<(), Fail> {
+    let bytes = many_sets(&rt)?;
+    assert!(rt; gives(&rt, "kept 0 99998", &bytes, 0, b"98304\n98305\n99998\n", "")?);
+    Ok(())
+}
+
 const SLICES: &[Row] = &[
     ("slice 0 0 s", ADD, 0, SLICED, "function 1 instruction 0\n"),
     (
