@@ -19,7 +19,7 @@ from wassail_companions.program import Program
 from wassail_companions.reasons import reasons_of
 from wassail_companions.structure import placed_lines
 
-FUNCTIONS, POSITIONS, VIEWS, OVERVIEW_CELLS = 12, 3, 4, 7
+FUNCTIONS, POSITIONS, VIEWS, OVERVIEW_CELLS, TRIED = 12, 3, 4, 7, 40
 
 
 def spread(things, count):
@@ -130,8 +130,13 @@ class RealModules(InFolder):
             data = path.read_bytes()
             if program.ask(data, "check").status == 0:
                 own = [one.number for one in read_module(data).functions if one.body is not None]
-                marked += sum(self.compare_view(program, path, data, function) for function in spread(own, VIEWS))
+                seen = {*spread(own, VIEWS), *spread([one for one in spread(own, TRIED) if self.is_kept(program, data, one)], VIEWS)}
+                marked += sum(self.compare_view(program, path, data, function) for function in sorted(seen))
         self.assertGreater(marked, 0)
+
+    def is_kept(self, program, data, function):
+        """Whether `kept` answers of the function's first position: many functions call, of which it doesn't yet."""
+        return program.ask(data, "kept", str(function), "0").status == 0
 
     def compare_view(self, program, path, data, function):
         """How many nodes are kept for the function's last live position."""
