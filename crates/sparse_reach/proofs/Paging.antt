@@ -1,6 +1,7 @@
 -- Pages as one list.
-use Rattle.std.proofs.Common.{◌≡◌, ℕ, zero, suc, ◌+◌, ◌-◌, ◌*◌, ◌/◌, ◌%◌, ◌^◌, ◌<◌, ◌≤◌, List, [], ◌∷◌, ◌++◌, Vec, Global, Bool, true, false, not, nat_eq, IsTrue, length, get_or, set, replicate, sum, bit_or, refl, sym, ◌∙◌, ap, inl, inr, ⊎_elim, arith, length-append, append_assoc, append-nil}
+use Rattle.std.proofs.Common.{◌≡◌, ℕ, zero, suc, ◌+◌, ◌-◌, ◌*◌, ◌/◌, ◌%◌, ◌^◌, ◌<◌, ◌≤◌, List, [], ◌∷◌, ◌++◌, Vec, Global, Bool, true, false, not, nat_eq, IsTrue, length, get_or, set, replicate, take, sum, bit_or, if◌then◌else◌, refl, sym, ◌∙◌, ap, inl, inr, ⊎_elim, arith, length-append, append_assoc, append-nil}
 use Rattle.std.proofs.Math.ListN.{length-replicate}
+use Rattle.std.proofs.Math.Seq.{take_all}
 use Rattle.std.specs.List.{All}
 use Rattle.std.proofs.lemmas.Bool.{cases_lt, cases_Bool}
 use Rattle.std.proofs.lemmas.List.{get_or_append_left, get_or-append_right, set-append_left, set-append_right, get_or-replicate, get_or_past, get_or_read}
@@ -36,6 +37,15 @@ filled_at xs r le past = elim (cases_lt r 512) [
 
 pub filled_in : (xs : List ℕ) (r : ℕ) → r < length xs → get_or (filled xs) r 0 ≡ get_or xs r 0
 filled_in xs r lt = get_or_append_left xs (replicate (512 - length xs) 0) 0 r lt
+
+-- what is filled up is the same page, whether that succeeds or not
+pub filled_either : (ok : Bool) (n : ℕ) (xs ys : List ℕ) → length xs ≤ 512 → n ≡ length xs
+    → ys ≡ (if ok then take 512 xs ++ replicate (512 - n) 0 else xs) → filled ys ≡ filled xs
+filled_either false n xs ys short long is = ap filled is
+filled_either true n xs ys short long is =
+    let whole : ys ≡ filled xs =
+    is ∙ (ap (λ zs. zs ++ replicate (512 - n) 0) (take_all 512 xs short) ∙ ap (λ k. xs ++ replicate (512 - k) 0) long) in
+    ap filled whole ∙ filled_full (filled xs) (length_filled xs short)
 
 page_at : (pages : List (Vec ℕ Global)) (k : ℕ) (d : Vec ℕ Global) → List ℕ
 page_at pages k d = filled (get_or pages k d).items

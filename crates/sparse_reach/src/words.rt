@@ -30,9 +30,9 @@ fn fill(page: &mut Vec<u64>) -> Result<(), NoMemory>
     ensures same { filled page.new.items ≡ filled page.old.items }
     ensures full { IfOk result (λ _. vec_len page.new ≡ 512) }
 {
-    page.reserve_exact(PAGE - page.len()).map_err(|_| NoMemory)?;
-    for _zero in page.len()..PAGE {
-        page.push(0).map_err(|_| NoMemory)?;
+    if page.len() < PAGE {
+        page.reserve_exact(PAGE - page.len()).map_err(|_| NoMemory)?;
+        page.resize(PAGE, 0).map_err(|_| NoMemory)?;
     }
     Ok(())
 }

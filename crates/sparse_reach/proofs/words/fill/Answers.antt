@@ -1,20 +1,11 @@
-use Rattle.std.proofs.Common.{rules, arith, ◌≡◌, ◌<◌, ◌++◌, ◌∷◌, [], length, ◌^◌, ℕ, ◌∙◌, length-append}
-use Rattle.std.proofs.lemmas.List.Elements.{All-push}
-use Rattle.sparse_reach.proofs.Paging.{filled_push}
+use Rattle.std.proofs.Common.{◌≡◌, ◌≤◌, ◌∙◌, length, is_ok, vec_len, ap}
+use Rattle.sparse_reach.specs.Pages.{filled}
+use Rattle.sparse_reach.proofs.Paging.{filled_either}
 use Rattle.sparse_reach.proofs.words.fill.Goals as goal
 
-pub loop-zero-preserved : goal.loop-zero-preserved
-loop-zero-preserved c =
-    let page = c.loop-zero.page in
-    let pushed : c.push.new.self.items ≡ page.items ++ 0 ∷ [] = search rules in
-    let short : length page.items < 512 = omega (arith, c.loop-zero.invariant.length_is, page.ok.0) in
-    record {
-      page =
-          rw pushed (
-            omega (arith, length-append page.items (0 ∷ [])),
-            All-push (λ (w : ℕ). w < 2 ^ 64) page.items 0 c.loop-zero.invariant.page.1
-                (omega arith),
-          );
-      same = rw pushed (filled_push page.items short ∙ c.loop-zero.invariant.same);
-      length_is = search rules;
-    }
+pub returns-in_ok-map_err-2-clause-same : goal.returns-in_ok-map_err-2-clause-same
+returns-in_ok-map_err-2-clause-same c =
+    let page = c.reserve_exact.new.self in
+    let kept : page.items ≡ c.args.page.now.items = c.reserve_exact.ensures.items in
+    let short : length page.items ≤ 512 = rw kept c.requires.0 in
+    filled_either (is_ok c.resize.result) (vec_len page) page.items c.resize.new.self.items short page.ok.0 c.resize.ensures.items ∙ ap filled kept

@@ -1,5 +1,4 @@
-use Rattle.std.proofs.Common.{◌*◌, length, sym, ap, ◌∙◌}
-use Rattle.sparse_reach.specs.Flags.{flags}
+use Rattle.std.proofs.Common.{◌*◌, sym, ap, ◌∙◌}
 use Rattle.sparse_reach.proofs.Flagging.{word_there, flag_set, length_flags}
 use Rattle.sparse_reach.proofs.marks.Marks.set.Goals as goal
 
