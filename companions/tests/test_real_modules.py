@@ -185,7 +185,7 @@ class RealModules(InFolder):
 def rows_told(text):
     """The rows that a function's cell has, without names: outputs with their inputs."""
     rows = {}
-    for line in re.sub(r" \([^()]*\)", "", re.sub(r"^\d+ outputs", "", text)).splitlines():
+    for line in re.sub(r" \([^()]*\)", "", re.sub(r"^\d+ outputs?", "", text)).splitlines():
         if line.startswith("only on itself each: "):
             rows |= {output: (output,) for output in line.removeprefix("only on itself each: ").split(", ")}
         elif " ← " in line:

@@ -85,7 +85,8 @@ def _graph(overview: Overview) -> Iterator[str]:
     if not recursive:
         yield "<p>No function reaches itself by such calls.</p>\n"
         return
-    yield f"<p>{len(recursive)} groups reach themselves by calls:</p>\n"
+    yield "<p>One group reaches itself" if len(recursive) == 1 else f"<p>{len(recursive)} groups reach themselves"
+    yield " by calls:</p>\n"
     yield "<table>" + table_head(("group", "number"), ("functions", "number"), ("members", ""))
     for group in sorted(recursive, key=lambda group: (-len(group.members), group.number)):
         members = ", ".join(_function_link(overview, member) for member in group.members)
@@ -163,7 +164,7 @@ def _details(overview: Overview, number: int, callers: list[int], rows: list[Row
         lines.append(f"calls through the table: {code.calls_through_table}")
     if callers:
         lines.append(f"called by {_numbers(callers)}")
-    what = f"{len(rows)} outputs" if rows else kind
+    what = kind if not rows else "1 output" if len(rows) == 1 else f"{len(rows)} outputs"
     newline = "\n"
     return f"<details><summary>{what}</summary><pre>{newline.join(lines)}</pre></details>" if lines else what
 
