@@ -37,13 +37,14 @@ def is_built(script):
 def asked(module, words, memory=None, more=None, told=None):
     """What the program answers to words (a list) and a module: status, standard output, standard error. A signal is a status below 0.
 
-    `memory` limits the addresses that it may have, in KiB. `more` is put into its environment, and the file `told` is left open for it."""
+    `memory` limits its data in KiB, which doesn't count the stack: where the stack can't grow, a signal ends a program. `more` is put into its environment, and
+    the file `told` is left open for it."""
     # From a file, since how often a pipe is read varies.
     with tempfile.TemporaryFile() as source:
         source.write(module)
         source.seek(0)
         ran = subprocess.run(
-            [*(["sh", "-c", 'ulimit -v "$0" && exec "$@"', str(memory)] if memory else []), PROGRAM, *map(str, words)],
+            [*(["sh", "-c", 'ulimit -d "$0" && exec "$@"', str(memory)] if memory else []), PROGRAM, *map(str, words)],
             stdin=source,
             capture_output=True,
             timeout=SECONDS,
