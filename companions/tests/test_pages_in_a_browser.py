@@ -210,6 +210,7 @@ class PagesInABrowser(InFolder):
         self.look("view-real")
         self.opened("overview", data, program=BUILT)
         self.assertGreater(self.told("document.querySelectorAll('#functions tbody tr').length"), 500)
-        self.browser.follow(f"#f{function}")
+        self.told(f"location.hash = 'f{function}'")
+        self.browser.settle()
         self.assertTrue(self.told(f"{IS_ON_TOP}('f{function}')"))
         self.look("overview-real")
