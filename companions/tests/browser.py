@@ -155,6 +155,8 @@ class Browser:
 
     def screenshot(self):
         """The page from its top, and as far as it goes, as a PNG."""
+        self.told("scrollTo(0, 0)")
+        self.settle()
         size = self.ask("Page.getLayoutMetrics")["cssContentSize"]
         clip = {"x": 0, "y": 0, "width": size["width"], "height": min(size["height"], TALLEST), "scale": 1}
         return base64.b64decode(self.ask("Page.captureScreenshot", format="png", captureBeyondViewport=True, clip=clip)["data"])
