@@ -328,6 +328,14 @@ module _ (m : Module) (shapes : List (List ℕ)) (by_func by_type : List (Option
           absurd (types t None r.kind ty r.named c (u.1.1.1 ∙ ap (λ (z : FuncType). Some (shape_of z)) same))
       by (Some c) (Some d) fn ty = agree c d fn ty
 
+  pub funcs_alike : (c f g : ℕ) → slice_get by_func f ≡ Some (Some c) → slice_get by_func g ≡ Some (Some c)
+      → (t : FuncType) × ((type_of_func m f ≡ Some t) × (type_of_func m g ≡ Some t))
+  funcs_alike c f g here there =
+      let u = funcs f (Some c) here in
+      let v = funcs g (Some c) there in
+      let same : v.0 ≡ u.0 = shape_same v.0 u.0 (same_shape (shape_of v.0) (shape_of u.0) (slice_get shapes c) v.1.1.1 u.1.1.1) in
+      (u.0, (u.1.0, v.1.0 ∙ ap Some same))
+
   pub funcs_below : AllBelow (length shapes) by_func
   funcs_below f c is = let u = funcs f (Some c) is in slice_get_within shapes c (shape_of u.0) u.1.1.1
 

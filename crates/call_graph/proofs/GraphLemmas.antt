@@ -31,7 +31,7 @@ use Rattle.call_graph.specs.Edges.{functions, edge_of, target_of, Leads}
 use Rattle.call_graph.specs.Graph.{IsCallGraph, TellsCall, TellsCaller, TellsLoc}
 use Rattle.call_graph.specs.Labels.{label_of, own_at, root_at, touch_by, touch_root, write_by, write_root}
 use Rattle.call_graph.specs.Pairs.{HasPair}
-use Rattle.call_graph.specs.Tells.{TellsTargets}
+use Rattle.call_graph.specs.Tells.{AreAlike, TellsTargets}
 use Rattle.call_graph.proofs.Members.{in_map, in_picked, map_in, picked_in}
 use Rattle.call_graph.proofs.Calling.{does_below, calls_below, reached_below, does_touch, does_write, touch_does, write_does, call_touches, call_writes, touch_form, write_form}
 use Rattle.call_graph.proofs.Spreading.{edge_calls, pair_calls, call_edges, spread_sound, spread_complete}
@@ -272,8 +272,8 @@ module _ (m : Module) (classes : Classes) (same : functions classes ≡ length (
             (call_edges m classes same targets f h below c),
       )
 
-  pub graph_tells : (g : CallGraph) → IsGraphBy classes acts g → IsCallGraph m g
-  graph_tells g b =
+  pub graph_tells : AreAlike m classes → (g : CallGraph) → IsGraphBy classes acts g → IsCallGraph m g
+  graph_tells alike g b =
       let E : ℕ → ℕ → Type 0 = λ x y. IsEdge classes acts y x in
       let edges : (x y : ℕ) → E x y ↔ Leads m classes y x = λ x y. edge_leads y x in
       let turned : (f y : ℕ) → HasPair g.calls f y ↔ ((f < functions g.classes) × Has g.callers.next.items y f) = λ f y. (
@@ -290,6 +290,7 @@ module _ (m : Module) (classes : Classes) (same : functions classes ≡ length (
         members = subst (λ (z : Classes). (c f : ℕ) → Has g.members.items c f ↔ (slice_get z.by_func.items f ≡ Some (Some c))) (sym b.same) b.members;
         order = λ f. subst (λ (n : ℕ). Contains g.order.items f ↔ (f < n)) same (b.order f);
         writes = writes_tell E edges g.writes (filter_map write_root acts) refl b.writes;
+        alike = subst (AreAlike m) (sym b.same) alike;
       }
 
 -- each function that does something is a function

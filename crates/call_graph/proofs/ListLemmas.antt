@@ -16,7 +16,7 @@ use Rattle.call_graph.specs.declared.calls.CallGraph.{CallGraph}
 use Rattle.call_graph.specs.declared.classes.Classes.{Classes}
 use Rattle.call_graph.specs.Edges.{functions, class_in}
 use Rattle.call_graph.specs.Graph.{TellsCaller}
-use Rattle.call_graph.specs.Tells.{TellsTargets}
+use Rattle.call_graph.specs.Tells.{HasClass, TellsTargets}
 use Rattle.call_graph.proofs.Members.{none_in}
 use Rattle.call_graph.proofs.ReaderLemmas.{in_class, not_in}
 
@@ -135,36 +135,31 @@ module _ (g : CallGraph) (h : ℕ) (old mid new : List ℕ) (direct : Gains (λ 
       (λ f (lt, s). ⊎_elim (λ k. (lt, k)) (λ k. absurd (not_in (slice_get g.classes.by_func.items h) k.0 none k.1.0)) s)
       direct
 
--- ---- targets: the functions of the type's class
+-- ---- the functions of a class, and of a type
 
-module _ (m : Module) (classes : Classes) (tells : TellsTargets m classes) (members : List (Vec ℕ Global))
-    (listed : (c f : ℕ) → Has members c f ↔ (slice_get classes.by_func.items f ≡ Some (Some c))) (t : ℕ) where
-  pub targets_listed : (c : ℕ) (row : Vec ℕ Global) → class_in (slice_get classes.by_type.items t) ≡ Some c → slice_get members c ≡ Some row
-      → (f : ℕ) → Contains row.items f ↔ Target m t f
-  targets_listed c row ty at f =
+module _ (classes : Classes) (members : List (Vec ℕ Global))
+    (listed : (c f : ℕ) → Has members c f ↔ (slice_get classes.by_func.items f ≡ Some (Some c))) (c : ℕ) where
+  pub members_listed : (row : Vec ℕ Global) → slice_get members c ≡ Some row → (f : ℕ) → Contains row.items f ↔ HasClass classes f c
+  members_listed row at f =
+      let has = has_row members c row at f in let l = listed c f in (λ h. l.0 (has.0 h), λ h. has.1 (l.1 h))
+
+  pub members_unlisted : slice_get members c ≡ None → (f : ℕ) → Contains (let none : List ℕ = [] in none) f ↔ HasClass classes f c
+  members_unlisted none f = (λ h. absurd (none_in f h), λ h. absurd (no_row members c none f ((listed c f).1 h)))
+
+module _ (m : Module) (classes : Classes) (tells : TellsTargets m classes) (t : ℕ) where
+  pub targets_listed : (c : ℕ) → class_in (slice_get classes.by_type.items t) ≡ Some c → (f : ℕ) → HasClass classes f c ↔ Target m t f
+  targets_listed c ty f =
       let of = in_class (slice_get classes.by_type.items t) c ty in (
-        λ h. (tells t f).0 (c, (of, (listed c f).0 ((has_row members c row at f).0 h))),
+        λ h. (tells t f).0 (c, (of, h)),
         λ r.
             let s = (tells t f).1 r in
             let both : Some (Some s.0) ≡ Some (Some c) = sym s.1.0 ∙ of in
             let same : s.0 ≡ c = cc in
-            (has_row members c row at f).1 ((listed c f).1 (s.1.1 ∙ ap (λ (z : ℕ). Some (Some z)) same)),
+            s.1.1 ∙ ap (λ (z : ℕ). Some (Some z)) same,
       )
 
-  pub targets_unlisted : (c : ℕ) → class_in (slice_get classes.by_type.items t) ≡ Some c → slice_get members c ≡ None
-      → (f : ℕ) → Contains (let none : List ℕ = [] in none) f ↔ Target m t f
-  targets_unlisted c ty none f =
-      let of = in_class (slice_get classes.by_type.items t) c ty in (
-        λ h. absurd (none_in f h),
-        λ r.
-            let s = (tells t f).1 r in
-            let both : Some (Some s.0) ≡ Some (Some c) = sym s.1.0 ∙ of in
-            let same : s.0 ≡ c = cc in
-            absurd (no_row members c none f ((listed c f).1 (s.1.1 ∙ ap (λ (z : ℕ). Some (Some z)) same))),
-      )
+  pub untyped : class_in (slice_get classes.by_type.items t) ≡ None → (f : ℕ) → Target m t f → ⊥
+  untyped none f r = let s = (tells t f).1 r in not_in (slice_get classes.by_type.items t) s.0 none s.1.0
 
   pub targets_untyped : class_in (slice_get classes.by_type.items t) ≡ None → (f : ℕ) → Contains (let none : List ℕ = [] in none) f ↔ Target m t f
-  targets_untyped none f = (
-    λ h. absurd (none_in f h),
-    λ r. let s = (tells t f).1 r in absurd (not_in (slice_get classes.by_type.items t) s.0 none s.1.0),
-  )
+  targets_untyped none f = (λ h. absurd (none_in f h), λ r. absurd (untyped none f r))

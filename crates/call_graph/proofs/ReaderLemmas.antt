@@ -34,6 +34,12 @@ loc_told pairs f x o r P lab has tells = (
 pub loc_untold : (pairs : Pairs) (f : ℕ) (x : Loc) (P : Type 0) → label_of x ≡ None → TellsLoc pairs f x ↔ P → IsTrue false ↔ P
 loc_untold pairs f x P lab tells = (λ t. absurd cc, λ p. let h = tells.1 p in let e = h.1.0 in absurd cc)
 
+pub loc_tells : (pairs : Pairs) (f : ℕ) (x : Loc) (o : ℕ) (r : Bool) → label_of x ≡ Some o → IsTrue r ↔ HasPair pairs f o → IsTrue r ↔ TellsLoc pairs f x
+loc_tells pairs f x o r lab has = loc_told pairs f x o r (TellsLoc pairs f x) lab has (λ h. h, λ h. h)
+
+pub loc_untells : (pairs : Pairs) (f : ℕ) (x : Loc) → label_of x ≡ None → IsTrue false ↔ TellsLoc pairs f x
+loc_untells pairs f x lab = loc_untold pairs f x (TellsLoc pairs f x) lab (λ h. h, λ h. h)
+
 module _ (m : Module) (classes : Classes) (t f : ℕ) (tells : TellsTargets m classes) where
   pub target_told : (c d : ℕ) (r : Bool) → class_in (slice_get classes.by_type.items t) ≡ Some c → class_in (slice_get classes.by_func.items f) ≡ Some d
       → IsTrue r ↔ (d ≡ c) → IsTrue r ↔ Target m t f

@@ -13,7 +13,7 @@ use Rattle.call_graph.specs.declared.calls.CallGraph.{CallGraph}
 use Rattle.call_graph.specs.Edges.{functions}
 use Rattle.call_graph.specs.Labels.{label_of}
 use Rattle.call_graph.specs.Pairs.{HasPair}
-use Rattle.call_graph.specs.Tells.{TellsTargets}
+use Rattle.call_graph.specs.Tells.{AreAlike, TellsTargets}
 
 -- a function leads to another, or to the class of the other
 abbrev pub TellsCall : CallGraph → ℕ → ℕ → Type 0
@@ -40,3 +40,4 @@ pub record IsCallGraph (m : Module) (g : CallGraph) : Type 0 where
   pub writes : (f : ℕ) (x : Loc) → TellsLoc g.writes f x ↔ MayWrite m f x
   pub members : (c f : ℕ) → Has g.members.items c f ↔ (slice_get g.classes.by_func.items f ≡ Some (Some c))
   pub order : (f : ℕ) → Contains g.order.items f ↔ IsFunction m f
+  pub alike : AreAlike m g.classes

@@ -12,8 +12,9 @@ ghost use Rattle.call_graph.specs.declared.acts.Act.{Act};
 ghost use Rattle.call_graph.specs.declared.edges.Edge.{Edge};
 ghost use Rattle.call_graph.specs.Built.{IsGraphBy};
 ghost use Rattle.call_graph.specs.Edges.{class_in};
-ghost use Rattle.call_graph.specs.Graph.{IsCallGraph, TellsCaller};
+ghost use Rattle.call_graph.specs.Graph.{IsCallGraph, TellsCaller, TellsLoc};
 ghost use Rattle.call_graph.specs.Pairs.{HasPair};
+ghost use Rattle.call_graph.specs.Tells.{HasClass};
 
 use crate::acts::{Act, acts_of};
 use crate::classes::Classes;
@@ -129,18 +130,35 @@ impl CallGraph {
     ghost use Rattle.wasm_types.specs.Hosts.{IsFunction};
     ghost use Rattle.worklist.specs.Gains.{Gains};
 
+    /// How many classes there are: the functions of one are those that a call through the table by one type may find.
+    pub fn class_count(&self) -> usize
+        ensures { result ≡ self.now.classes.count }
+    {
+        self.classes.count
+    }
+
     /// The class of a function.
-    fn class_of(&self, func: usize) -> Option<usize>
+    pub fn class_of(&self, func: usize) -> Option<usize>
         ensures { result ≡ class_in (slice_get self.now.classes.by_func.items func) }
     {
         *self.classes.by_func.get(func)?
     }
 
     /// The class of a type number.
-    fn class_by(&self, kind: u32) -> Option<usize>
+    pub fn class_by(&self, kind: u32) -> Option<usize>
         ensures { result ≡ class_in (slice_get self.now.classes.by_type.items kind) }
     {
         *self.classes.by_type.get(kind as usize)?
+    }
+
+    /// The functions of a class.
+    pub fn members_of(&self, class: usize) -> &[usize]
+        ensures { (m : Module) → IsCallGraph m self.now → (f : ℕ) → Contains result.now f ↔ HasClass self.now.classes f class }
+    {
+        match self.members.get(class) {
+            Some(members) => members.as_slice(),
+            None => &[],
+        }
     }
 
     /// Whether an instruction at a live position of a function calls another, by its number or through the table. No function is called that isn't there.
@@ -167,7 +185,8 @@ impl CallGraph {
 
     /// Whether a function that is reached reads, checks or writes a location. No local is touched so.
     pub fn touches(&self, func: u32, loc: Loc) -> bool
-        ensures { (m : Module) → IsCallGraph m self.now → (IsTrue result ↔ MayTouch m func loc) }
+        ensures touches { (m : Module) → IsCallGraph m self.now → (IsTrue result ↔ MayTouch m func loc) }
+        ensures told { IsTrue result ↔ TellsLoc self.now.touches func loc }
     {
         match label(loc) {
             Some(label) => self.touches.has(func as usize, label),
@@ -177,7 +196,8 @@ impl CallGraph {
 
     /// Whether a function that is reached writes a location. No local is written so.
     pub fn writes(&self, func: u32, loc: Loc) -> bool
-        ensures { (m : Module) → IsCallGraph m self.now → (IsTrue result ↔ MayWrite m func loc) }
+        ensures writes { (m : Module) → IsCallGraph m self.now → (IsTrue result ↔ MayWrite m func loc) }
+        ensures told { IsTrue result ↔ TellsLoc self.now.writes func loc }
     {
         match label(loc) {
             Some(label) => self.writes.has(func as usize, label),
@@ -202,11 +222,8 @@ impl CallGraph {
     pub fn targets_of(&self, kind: u32) -> &[usize]
         ensures { (m : Module) → IsCallGraph m self.now → (f : ℕ) → Contains result.now f ↔ Target m kind f }
     {
-        let Some(class) = self.class_by(kind) else {
-            return &[];
-        };
-        match self.members.get(class) {
-            Some(members) => members.as_slice(),
+        match self.class_by(kind) {
+            Some(class) => self.members_of(class),
             None => &[],
         }
     }

@@ -192,7 +192,7 @@ fn classes_of_types(
 }
 
 impl Classes {
-    ghost use Rattle.call_graph.specs.Tells.{TellsTargets};
+    ghost use Rattle.call_graph.specs.Tells.{AreAlike, TellsTargets};
 
     /// Those of a module. It fails only where an allocation is refused.
     pub(crate) fn of(alloc: Global, m: &Module, spaces: &Spaces) -> Result<Classes, NoMemory>
@@ -200,6 +200,7 @@ impl Classes {
         requires few { length (func_types m.now) < 2 ^ 32 }
         ensures length { IfOk result (λ classes. length classes.by_func.items ≡ length (func_types m.now)) }
         ensures exact { IfOk result (λ classes. TellsTargets m.now classes) }
+        ensures alike { IfOk result (λ classes. AreAlike m.now classes) }
     {
         let stands = standing(alloc, m, spaces.funcs.len())?;
         let mut shapes = IndexSet::new(alloc);

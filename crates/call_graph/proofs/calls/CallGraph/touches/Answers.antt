@@ -1,7 +1,16 @@
 use Rattle.std.proofs.Common.{sym}
-use Rattle.call_graph.proofs.ReaderLemmas.{loc_told}
+use Rattle.call_graph.proofs.ReaderLemmas.{loc_told, loc_tells, loc_untold, loc_untells}
 use Rattle.call_graph.proofs.calls.CallGraph.touches.Goals as goal
 
-pub returns-in-Some : goal.returns-in-Some
-returns-in-Some c = λ m g.
+pub returns-in-Some-clause-touches : goal.returns-in-Some-clause-touches
+returns-in-Some-clause-touches c = λ m g.
     loc_told c.args.self.now.touches c.args.func c.args.loc c.in-Some.label _ _ (sym c.in-Some.ensures) c.has.ensures (g.touches c.args.func c.args.loc)
+
+pub returns-in-Some-clause-told : goal.returns-in-Some-clause-told
+returns-in-Some-clause-told c = loc_tells c.args.self.now.touches c.args.func c.args.loc c.in-Some.label _ (sym c.in-Some.ensures) c.has.ensures
+
+pub returns-in-None-clause-touches : goal.returns-in-None-clause-touches
+returns-in-None-clause-touches c = λ m g. loc_untold c.args.self.now.touches c.args.func c.args.loc _ (sym c.in-None.ensures) (g.touches c.args.func c.args.loc)
+
+pub returns-in-None-clause-told : goal.returns-in-None-clause-told
+returns-in-None-clause-told c = loc_untells c.args.self.now.touches c.args.func c.args.loc (sym c.in-None.ensures)
