@@ -4,3 +4,4 @@ pub mod Chain
 pub mod Deciders
 pub mod Leaving
 pub mod Nearest
+pub mod Packing

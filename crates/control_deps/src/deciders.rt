@@ -3,13 +3,13 @@
 //! Deciders come one from the other. Where two branches stand before a position and lead past it, the first one leads past the second one too, and decides
 //! about it. So of these the last one is enough, and the same goes for the branches out of a loop or of a block.
 
-ghost use Rattle.std.specs.Prelude.{◌≡◌, ◌+◌, ◌<◌, IfOk, IfSome, length, slice_get};
+ghost use Rattle.std.specs.Prelude.{◌≡◌, ◌+◌, ◌<◌, IfOk, IfSome, Some, length, slice_get};
 ghost use Rattle.control_deps.specs.Leaving.{AreExits, AreRows, Marks, Sees, exit_of, loop_around, loops_at, number, row_of};
 ghost use Rattle.control_deps.specs.Nearest.{AreNearest, latest_in, nearest_in, nearest_of_row};
 ghost use Rattle.control_deps.specs.Nest.{AreNested};
 
 use crate::nest::Nest;
-use crate::spot::{Form, Spot};
+use crate::spot::{Form, Packed, Spot, pack_pos, spot_at, unpack_pos};
 use std::alloc::Global;
 use std::marker::Model;
 use wasm_types::{NoMemory, Node, Pos};
@@ -31,10 +31,52 @@ pub(crate) struct Row {
     pub(crate) inside: Option<Pos>,
 }
 
+/// A row in twelve bytes, since there is one for each position.
+#[derive(Drop)]
+pub(crate) struct PackedRow {
+    earlier: u32,
+    inside: u32,
+    has_earlier: bool,
+    is_inside: bool,
+}
+
+impl Model for PackedRow {
+    ghost use Rattle.control_deps.specs.declared.deciders.Row.{Row};
+    ghost use Rattle.control_deps.specs.Packing.{pos_back};
+
+    ghost Value = { Row };
+
+    ghost view = { λ p. record { earlier = pos_back p.has_earlier p.earlier; inside = pos_back p.is_inside p.inside } };
+}
+
+impl PackedRow {
+    fn of(row: Row) -> PackedRow
+        ensures { result ≡ row }
+    {
+        let (has_earlier, earlier) = pack_pos(row.earlier);
+        let (is_inside, inside) = pack_pos(row.inside);
+        PackedRow {
+            earlier,
+            inside,
+            has_earlier,
+            is_inside,
+        }
+    }
+
+    fn get(&self) -> Row
+        ensures { result ≡ self.now }
+    {
+        Row {
+            earlier: unpack_pos(self.has_earlier, self.earlier),
+            inside: unpack_pos(self.is_inside, self.inside),
+        }
+    }
+}
+
 /// The nearest deciders of the nodes of a body.
 #[derive(Drop)]
 pub struct Deciders {
-    rows: Vec<Row>,
+    rows: Vec<PackedRow>,
     exits: Vec<Option<Pos>>,
 }
 
@@ -57,17 +99,17 @@ fn number(one: Option<Pos>) -> usize
 }
 
 /// Whether a loop is at a position.
-fn is_loop(spots: &[Spot], block: Pos) -> bool
+fn is_loop(spots: &[Packed], block: Pos) -> bool
     ensures { result ≡ loops_at (slice_get spots.now block.0) }
 {
     match spots.get(block.0 as usize) {
-        Some(spot) => spot.form == Form::Loop,
+        Some(spot) => spot.get().form == Form::Loop,
         None => false,
     }
 }
 
 /// What is directly around, where it is a loop.
-fn loop_around(spots: &[Spot], around: Option<Pos>) -> Option<Pos>
+fn loop_around(spots: &[Packed], around: Option<Pos>) -> Option<Pos>
     ensures { result ≡ loop_around spots.now around }
 {
     match around {
@@ -93,7 +135,7 @@ fn exit_of(exits: &[Option<Pos>], one: Option<Pos>) -> Option<Pos>
 }
 
 /// What is kept of a position, where these are the last branches before it.
-fn row_of(spots: &[Spot], exits: &[Option<Pos>], spot: Spot) -> Row
+fn row_of(spots: &[Packed], exits: &[Option<Pos>], spot: Spot) -> Row
     ensures { result ≡ row_of spots.now exits.now spot }
 {
     if !spot.live {
@@ -108,7 +150,7 @@ fn row_of(spots: &[Spot], exits: &[Option<Pos>], spot: Spot) -> Row
 }
 
 /// Writes a branch down for all that it leaves, from the first one to the label outwards.
-fn mark(spots: &[Spot], exits: &mut [Option<Pos>], first: Option<Pos>, label: u32, branch: Pos)
+fn mark(spots: &[Packed], exits: &mut [Option<Pos>], first: Option<Pos>, label: u32, branch: Pos)
     requires nested { AreNested spots.now }
     requires within { IfSome first (λ b. b.0 < length spots.now) }
     requires long { length exits.old ≡ length spots.now + 1 }
@@ -122,12 +164,12 @@ fn mark(spots: &[Spot], exits: &mut [Option<Pos>], first: Option<Pos>, label: u3
     let Some(block) = first else {
         return;
     };
-    let spot = spots[block.0 as usize];
+    let spot = spot_at(spots, block.0 as usize);
     mark(spots, exits, spot.around, label - 1, branch);
 }
 
 /// Writes a position down for all that it leaves, where it is a live branch.
-fn see(spots: &[Spot], exits: &mut [Option<Pos>], at: Pos, spot: Spot)
+fn see(spots: &[Packed], exits: &mut [Option<Pos>], at: Pos, spot: Spot)
     requires nested { AreNested spots.now }
     requires within { IfSome spot.around (λ b. b.0 < length spots.now) }
     requires long { length exits.old ≡ length spots.now + 1 }
@@ -143,9 +185,9 @@ fn see(spots: &[Spot], exits: &mut [Option<Pos>], at: Pos, spot: Spot)
 
 /// Goes past a position.
 fn pass(
-    spots: &[Spot],
+    spots: &[Packed],
     exits: &mut [Option<Pos>],
-    rows: &mut Vec<Row>,
+    rows: &mut Vec<PackedRow>,
     at: Pos,
 ) -> Result<(), NoMemory>
     requires nested { AreNested spots.now }
@@ -156,8 +198,8 @@ fn pass(
     ensures exits { IfOk result (λ _. AreExits spots.now (at.0 + 1) exits.new) }
     ensures rows { IfOk result (λ _. AreRows spots.now (at.0 + 1) rows.new.items) }
 {
-    let spot = spots[at.0 as usize];
-    let row = row_of(spots, exits, spot);
+    let spot = spot_at(spots, at.0 as usize);
+    let row = PackedRow::of(row_of(spots, exits, spot));
     rows.push(row).map_err(|_| NoMemory)?;
     see(spots, exits, at, spot);
     Ok(())
@@ -171,7 +213,7 @@ impl Deciders {
     {
         let spots = nest.spots();
         let mut exits = vec![in alloc; None; spots.len() + 1].map_err(|_| NoMemory)?;
-        let mut rows = Vec::new(alloc);
+        let mut rows = Vec::with_capacity(alloc, spots.len()).map_err(|_| NoMemory)?;
         for at in 0..spots.len() {
             pass(spots, exits.as_mut_slice(), &mut rows, Pos(at as u32))?;
         }
@@ -201,15 +243,22 @@ impl Deciders {
         ensures { result ≡ nearest_of_row self.now.exits (slice_get self.now.rows pos.0) }
     {
         match self.rows.get(pos.0 as usize) {
-            Some(row) => Nearest {
-                earlier: row.earlier,
-                latest: latest_in(self.exits.as_slice(), row.inside),
-            },
+            Some(row) => nearest_of(self.exits.as_slice(), row.get()),
             None => Nearest {
                 earlier: None,
                 latest: None,
             },
         }
+    }
+}
+
+/// The nearest deciders of a position with this row.
+fn nearest_of(exits: &[Option<Pos>], row: Row) -> Nearest
+    ensures { result ≡ nearest_of_row exits.now (Some row) }
+{
+    Nearest {
+        earlier: row.earlier,
+        latest: latest_in(exits, row.inside),
     }
 }
 

@@ -6,7 +6,7 @@ ghost use Rattle.wasm_types.specs.Code.{code_of};
 ghost use Rattle.block_cfg.specs.Points.{HasPoints};
 ghost use Rattle.control_deps.specs.Nest.{AreNested, IsAround, IsNestOf};
 
-use crate::spot::Spot;
+use crate::spot::{Packed, spot_at};
 use crate::walk::walk_code;
 use std::alloc::Global;
 use std::marker::Model;
@@ -15,7 +15,7 @@ use wasm_types::{Body, NoMemory, Pos};
 /// What is kept of the positions of a body, to tell what is around each and what each branch decides about.
 #[derive(Drop)]
 pub struct Nest {
-    spots: Vec<Spot>,
+    spots: Vec<Packed>,
 }
 
 impl Model for Nest {
@@ -36,8 +36,8 @@ impl Nest {
         requires { HasPoints body.now }
         ensures { IfOk result (λ nest. IsNestOf body.now nest) }
     {
-        let mut spots = Vec::new(alloc);
         let code = body.code.as_slice();
+        let mut spots = Vec::with_capacity(alloc, code.len()).map_err(|_| NoMemory)?;
         walk_code(&mut spots, code, 0, None, 0, true)?;
         Ok(Nest { spots })
     }
@@ -47,10 +47,10 @@ impl Nest {
         requires { pos.0 < length self.now }
         ensures { (body : Body) → IsNestOf body self.now → IsAround (code_of body.code) pos.0 result }
     {
-        self.spots[pos.0 as usize].around
+        spot_at(self.spots.as_slice(), pos.0 as usize).around
     }
 
-    pub(crate) fn spots(&self) -> &[Spot]
+    pub(crate) fn spots(&self) -> &[Packed]
         ensures same { result.now ≡ self.now }
         ensures nested { AreNested self.now }
     {

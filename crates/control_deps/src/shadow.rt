@@ -8,16 +8,16 @@ ghost use Rattle.control_deps.specs.Nest.{AreNested};
 ghost use Rattle.control_deps.specs.Deciders.{AddsDecider, AreDeciders, Tells};
 
 use crate::nest::Nest;
-use crate::spot::{Form, Spot};
+use crate::spot::{Form, Packed, Spot, spot_at};
 use std::alloc::Global;
 use wasm_types::{NoMemory, Node, Pos};
 
 /// Whether a position is there and live.
-fn is_live(spots: &[Spot], pos: Pos) -> bool
+fn is_live(spots: &[Packed], pos: Pos) -> bool
     ensures { result ≡ live_at (slice_get spots.now pos.0) }
 {
     match spots.get(pos.0 as usize) {
-        Some(spot) => spot.live,
+        Some(spot) => spot.get().live,
         None => false,
     }
 }
@@ -30,17 +30,17 @@ fn holds(form: Form) -> bool
 }
 
 /// Whether a live block, loop or if is at a position.
-fn has_join(spots: &[Spot], pos: Pos) -> bool
+fn has_join(spots: &[Packed], pos: Pos) -> bool
     ensures { result ≡ joins_at (slice_get spots.now pos.0) }
 {
     match spots.get(pos.0 as usize) {
-        Some(spot) => holds(spot.form) && spot.live,
+        Some(spot) => holds(spot.get().form) && spot.get().live,
         None => false,
     }
 }
 
 /// Whether a node is at a position from `start` on that is below `stop`.
-fn is_inside(spots: &[Spot], start: usize, stop: usize, node: Node) -> bool
+fn is_inside(spots: &[Packed], start: usize, stop: usize, node: Node) -> bool
     ensures { IsTrue result ↔ StandsWithin spots.now start stop node }
 {
     match node {
@@ -53,7 +53,7 @@ fn is_inside(spots: &[Spot], start: usize, stop: usize, node: Node) -> bool
 }
 
 /// Whether a node is the join of a block, loop or if, or inside it where it is a loop.
-fn is_of_block(spots: &[Spot], block: Pos, spot: Spot, node: Node) -> bool
+fn is_of_block(spots: &[Packed], block: Pos, spot: Spot, node: Node) -> bool
     ensures { (L : Label) → IsLabelAt block.0 spot L → (IsTrue result ↔ IsOfLabel spots.now L node) }
 {
     if node == Node::Join(block) {
@@ -63,7 +63,7 @@ fn is_of_block(spots: &[Spot], block: Pos, spot: Spot, node: Node) -> bool
 }
 
 /// Whether a node is the end of the body, or stands behind a branch.
-fn is_of_body(spots: &[Spot], after: usize, node: Node) -> bool
+fn is_of_body(spots: &[Packed], after: usize, node: Node) -> bool
     ensures { IsTrue result ↔ ((node ≡ Node.Exit) ⊎ StandsWithin spots.now after (length spots.now) node) }
 {
     if node == Node::Exit {
@@ -73,7 +73,7 @@ fn is_of_body(spots: &[Spot], after: usize, node: Node) -> bool
 }
 
 /// Whether a branch decides about a node, where `around` is around it, `after` is the position behind it, and `label` is its outermost target.
-fn decides(spots: &[Spot], after: usize, around: Option<Pos>, label: u32, node: Node) -> bool
+fn decides(spots: &[Packed], after: usize, around: Option<Pos>, label: u32, node: Node) -> bool
     requires nested { AreNested spots.now }
     requires within { IfSome around (λ b. b.0 < length spots.now) }
     ensures { (ctx : List Label) → IsChain spots.now around ctx → label < length ctx → (IsTrue result ↔ Decides spots.now after ctx label node) }
@@ -81,7 +81,7 @@ fn decides(spots: &[Spot], after: usize, around: Option<Pos>, label: u32, node: 
     let Some(block) = around else {
         return is_of_body(spots, after, node);
     };
-    let spot = spots[block.0 as usize];
+    let spot = spot_at(spots, block.0 as usize);
     if is_of_block(spots, block, spot, node) {
         return true;
     }
@@ -92,7 +92,7 @@ fn decides(spots: &[Spot], after: usize, around: Option<Pos>, label: u32, node: 
 }
 
 /// Whether a node is the join of an if, or inside it.
-fn is_of_if(spots: &[Spot], branch: Pos, stop: u32, node: Node) -> bool
+fn is_of_if(spots: &[Packed], branch: Pos, stop: u32, node: Node) -> bool
     ensures { IsTrue result ↔ ((node ≡ Join branch.0) ⊎ StandsWithin spots.now (branch.0 + 1) stop node) }
 {
     if node == Node::Join(branch) {
@@ -102,14 +102,14 @@ fn is_of_if(spots: &[Spot], branch: Pos, stop: u32, node: Node) -> bool
 }
 
 /// Whether the shadow of a position has a node.
-fn shades(spots: &[Spot], branch: Pos, node: Node) -> bool
+fn shades(spots: &[Packed], branch: Pos, node: Node) -> bool
     requires { AreNested spots.now }
     ensures { Tells spots.now branch.0 node result }
 {
     if branch.0 as usize >= spots.len() {
         return false;
     }
-    let spot = spots[branch.0 as usize];
+    let spot = spot_at(spots, branch.0 as usize);
     if !spot.live {
         return false;
     }
@@ -130,7 +130,7 @@ pub fn in_shadow(nest: &Nest, branch: Pos, node: Node) -> bool
 
 /// Adds a position whose shadow has a node.
 fn add_decider(
-    spots: &[Spot],
+    spots: &[Packed],
     branch: Pos,
     node: Node,
     found: &mut Vec<Pos>,

@@ -1,8 +1,10 @@
 //! What is kept of a position.
 
-ghost use Rattle.std.specs.Prelude.{◌≡◌, max};
+ghost use Rattle.std.specs.Prelude.{◌≡◌, ◌<◌, Some, length, max, slice_get};
+ghost use Rattle.control_deps.specs.Packing.{form_back, pos_back};
 ghost use Rattle.control_deps.specs.Spots.{form_of, greatest};
 
+use std::marker::Model;
 use wasm_types::{Instr, Pos};
 
 /// What an instruction is: a block, a loop, an if, a branch with the outermost of its targets, or none of these.
@@ -22,6 +24,113 @@ pub(crate) struct Spot {
     pub(crate) stop: u32,
     pub(crate) live: bool,
     pub(crate) form: Form,
+}
+
+/// What an instruction is, without the target of a branch.
+#[derive(Clone, Copy)]
+pub(crate) enum FormKind {
+    Other,
+    Block,
+    Loop,
+    If,
+    Branch,
+}
+
+/// A position in sixteen bytes, since there is one for each.
+#[derive(Drop)]
+pub(crate) struct Packed {
+    around: u32,
+    stop: u32,
+    label: u32,
+    form: FormKind,
+    inside: bool,
+    live: bool,
+}
+
+impl Model for Packed {
+    ghost use Rattle.control_deps.specs.declared.spot.Spot.{Spot};
+    ghost use Rattle.control_deps.specs.Packing.{form_back, pos_back};
+
+    ghost Value = { Spot };
+
+    ghost view = { λ p. record { around = pos_back p.inside p.around; stop = p.stop; live = p.live; form = form_back p.form p.label } };
+}
+
+/// Whether there is a position, and its number.
+pub(crate) fn pack_pos(pos: Option<Pos>) -> (bool, u32)
+    ensures { pos_back result.0 result.1 ≡ pos }
+{
+    match pos {
+        Some(pos) => (true, pos.0),
+        None => (false, 0),
+    }
+}
+
+/// The position of a number, where there is one.
+pub(crate) fn unpack_pos(there: bool, number: u32) -> Option<Pos>
+    ensures { result ≡ pos_back there number }
+{
+    if there { Some(Pos(number)) } else { None }
+}
+
+fn pack_form(form: Form) -> (FormKind, u32)
+    ensures { form_back result.0 result.1 ≡ form }
+{
+    match form {
+        Form::Other => (FormKind::Other, 0),
+        Form::Block => (FormKind::Block, 0),
+        Form::Loop => (FormKind::Loop, 0),
+        Form::If => (FormKind::If, 0),
+        Form::Branch(label) => (FormKind::Branch, label),
+    }
+}
+
+fn unpack_form(form: FormKind, label: u32) -> Form
+    ensures { result ≡ form_back form label }
+{
+    match form {
+        FormKind::Other => Form::Other,
+        FormKind::Block => Form::Block,
+        FormKind::Loop => Form::Loop,
+        FormKind::If => Form::If,
+        FormKind::Branch => Form::Branch(label),
+    }
+}
+
+impl Packed {
+    pub(crate) fn of(spot: Spot) -> Packed
+        ensures { result ≡ spot }
+    {
+        let (inside, around) = pack_pos(spot.around);
+        let (form, label) = pack_form(spot.form);
+        Packed {
+            around,
+            stop: spot.stop,
+            label,
+            form,
+            inside,
+            live: spot.live,
+        }
+    }
+
+    pub(crate) fn get(&self) -> Spot
+        ensures { result ≡ self.now }
+    {
+        Spot {
+            around: unpack_pos(self.inside, self.around),
+            stop: self.stop,
+            live: self.live,
+            form: unpack_form(self.form, self.label),
+        }
+    }
+}
+
+/// What is kept of a position.
+pub(crate) fn spot_at(spots: &[Packed], at: usize) -> Spot
+    requires { at < length spots.now }
+    ensures { slice_get spots.now at ≡ Some result }
+{
+    spots[at].get()
 }
 
 /// The greater number.

@@ -1,11 +1,11 @@
 //! The walk over a body: what is kept of its positions, in reading order.
 
-ghost use Rattle.std.specs.Prelude.{◌≡◌, ◌+◌, ◌^◌, ◌<◌, ◌≤◌, ◌∷◌, ◌++◌, [], ◌&&◌, IfOk, Some, length};
+ghost use Rattle.std.specs.Prelude.{◌≡◌, ◌+◌, ◌^◌, ◌<◌, ◌≤◌, ◌∷◌, ◌++◌, [], ◌&&◌, IfOk, Some, length, set};
 ghost use Rattle.wasm_types.specs.Code.{done, onto, code_of, count};
 ghost use Rattle.block_cfg.specs.Walk.{goes_on};
 ghost use Rattle.control_deps.specs.Spots.{place, spots_in};
 
-use crate::spot::{Form, Spot, plain_form};
+use crate::spot::{Form, Packed, Spot, plain_form};
 use wasm_types::{Instr, NoMemory, Pos};
 
 /// Whether what follows an instruction in its sequence is live, where `live` says whether the instruction is.
@@ -21,7 +21,7 @@ fn stays_live(instr: &Instr, live: bool) -> bool
 /// Goes past an instruction at a position, and answers the position after it. `depth` is how many blocks, loops and ifs are around it.
 #[cycle(walk)]
 fn walk_instr(
-    spots: &mut Vec<Spot>,
+    spots: &mut Vec<Packed>,
     instr: &Instr,
     at: u32,
     around: Option<Pos>,
@@ -60,7 +60,7 @@ fn walk_instr(
 
 /// Adds a position.
 fn push_spot(
-    spots: &mut Vec<Spot>,
+    spots: &mut Vec<Packed>,
     around: Option<Pos>,
     stop: u32,
     live: bool,
@@ -74,14 +74,22 @@ fn push_spot(
         live,
         form,
     };
-    spots.push(spot).map_err(|_| NoMemory)?;
+    spots.push(Packed::of(spot)).map_err(|_| NoMemory)?;
     Ok(())
+}
+
+/// Writes a position anew.
+fn set_spot(spots: &mut Vec<Packed>, here: usize, spot: Spot)
+    requires { here < length spots.old.items }
+    ensures { spots.new.items ≡ set spots.old.items here spot }
+{
+    spots[here] = Packed::of(spot);
 }
 
 /// Goes past a block or a loop.
 #[cycle(walk)]
 fn walk_block(
-    spots: &mut Vec<Spot>,
+    spots: &mut Vec<Packed>,
     form: Form,
     inner: &[Instr],
     at: u32,
@@ -97,19 +105,20 @@ fn walk_block(
     let here = spots.len();
     push_spot(spots, around, at, live, form)?;
     let end = walk_code(spots, inner, at + 1, Some(Pos(at)), depth + 1, live)?;
-    spots[here] = Spot {
+    let spot = Spot {
         around,
         stop: end,
         live,
         form,
     };
+    set_spot(spots, here, spot);
     Ok(end)
 }
 
 /// Goes past an if.
 #[cycle(walk)]
 fn walk_if(
-    spots: &mut Vec<Spot>,
+    spots: &mut Vec<Packed>,
     first: &[Instr],
     second: &[Instr],
     at: u32,
@@ -126,19 +135,20 @@ fn walk_if(
     push_spot(spots, around, at, live, Form::If)?;
     let middle = walk_code(spots, first, at + 1, Some(Pos(at)), depth + 1, live)?;
     let end = walk_code(spots, second, middle, Some(Pos(at)), depth + 1, live)?;
-    spots[here] = Spot {
+    let spot = Spot {
         around,
         stop: end,
         live,
         form: Form::If,
     };
+    set_spot(spots, here, spot);
     Ok(end)
 }
 
 /// Goes past a sequence at a position, and answers the position after it.
 #[cycle(walk)]
 pub(crate) fn walk_code(
-    spots: &mut Vec<Spot>,
+    spots: &mut Vec<Packed>,
     code: &[Instr],
     at: u32,
     around: Option<Pos>,

@@ -1,7 +1,6 @@
 use Rattle.std.proofs.Common.{◌≡◌, ◌+◌, ◌-◌, ◌<◌, Some, length, set, ap, arith}
-use Rattle.std.proofs.lemmas.Option.{slice_get-get_or}
 use Rattle.control_deps.specs.Leaving.{number}
-use Rattle.control_deps.proofs.ShadowLemmas.{block_within, around_within}
+use Rattle.control_deps.proofs.ShadowLemmas.{around_within}
 use Rattle.control_deps.proofs.LeaveLemmas.{zero_marks, none_marks, more_marks, number_within, length_marked}
 use Rattle.control_deps.proofs.deciders.+mark.Goals as goal
 
@@ -20,7 +19,7 @@ returns-in_default t c =
 pub mark-requires : goal.mark-requires
 mark-requires t c =
     let nest = c.args.spots.now in
-    let at = slice_get-get_or nest c.in-Some.block.0 _ (block_within nest c.args.first c.in-Some.block c.in-Some.is c.requires.within) in (
+    let at = c.spot_at-spot.ensures in (
       omega arith,
       (
         c.requires.nested,
@@ -37,6 +36,6 @@ returns t c =
     let nest = c.args.spots.now in
     let lt : number c.args.first < length c.args.exits.now = omega (arith, number_within nest c.args.first c.requires.within, c.requires.long) in
     let more : c.args.label ≡ (c.args.label - 1) + 1 = omega arith in
-    let at = slice_get-get_or nest c.in-Some.block.0 _ (block_within nest c.args.first c.in-Some.block c.in-Some.is c.requires.within) in
+    let at = c.spot_at-spot.ensures in
     more_marks nest c.args.first c.args.label (c.args.label - 1) c.args.branch c.in-Some.block _ c.args.exits.now _ c.mark.new.exits lt c.in-Some.is at more
     (ap (λ k. set c.args.exits.now k (Some c.args.branch)) c.number-here.ensures) c.mark.ensures

@@ -17,7 +17,7 @@ walk_block-returns-clause-spots t c =
     let old = c.args.spots.now.items in
     let inner = spots_in c.args.live (Some (place c.args.at)) (c.args.depth + 1) (code_of c.args.inner.now) (c.args.at + 1) in
     let at : c.len-here.result ≡ length c.args.spots.now.items = grind (arith, common_steps) in
-    place_set old inner c.walk_code.new.spots.items _ _ c.len-here.result at (c.in_ok-end.ensures.spots ∙ ap (λ (z : List Spot). z ++ inner) c.in_ok-push_spot.ensures)
+    c.set_spot.ensures ∙ place_set old inner c.walk_code.new.spots.items _ _ c.len-here.result at (c.in_ok-end.ensures.spots ∙ ap (λ (z : List Spot). z ++ inner) c.in_ok-push_spot.ensures)
 
 pub walk_if-returns-clause-spots : goal.walk_if-returns-clause-spots
 walk_if-returns-clause-spots t c =
@@ -26,7 +26,7 @@ walk_if-returns-clause-spots t c =
     let Y = λ (z : ℕ). spots_in c.args.live (Some (place c.args.at)) (c.args.depth + 1) (code_of c.args.second.now) z in
     let f = c.args.at + 1 + count (code_of c.args.first.now) in
     let at : c.len-here.result ≡ length c.args.spots.now.items = grind (arith, common_steps) in
-    place_set old (X ++ Y f) c.walk_code-2.new.spots.items _ _ c.len-here.result at
+    c.set_spot.ensures ∙ place_set old (X ++ Y f) c.walk_code-2.new.spots.items _ _ c.len-here.result at
     (c.in_ok-end.ensures.spots ∙ ap₂ (λ (a b : List Spot). a ++ b) (c.in_ok-middle.ensures.spots ∙ ap (λ (z : List Spot). z ++ X) c.in_ok-push_spot.ensures) (ap Y c.in_ok-middle.ensures.end)
     ∙ append_assoc (old ++ record { around = c.args.around; stop = c.args.at; live = c.args.live; form = form.If } ∷ []) X (Y f))
 
