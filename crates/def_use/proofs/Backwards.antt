@@ -86,7 +86,7 @@ not_later : (w : ℕ) (ws : List ℕ) (v : ℕ) → (w ≡ v → ⊥) → (Conta
 not_later w ws v ne none (zero, lt, is) = ne is
 not_later w ws v ne none (suc k, lt, is) = none (k, omega arith, is)
 
-decide : (ws : List ℕ) (v : ℕ) → Contains ws v ⊎ (Contains ws v → ⊥)
+pub decide : (ws : List ℕ) (v : ℕ) → Contains ws v ⊎ (Contains ws v → ⊥)
 decide [] v = inr (λ (k, lt, is). omega arith)
 decide (w ∷ ws) v = elim (cases_eq w v) [
   | inl e ↦ inl (0, omega arith, e)

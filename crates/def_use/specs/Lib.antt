@@ -1,4 +1,5 @@
 pub mod Answers
+pub mod Last
 pub mod Places
 pub mod PlacesLaws
 pub mod Previous

@@ -6,6 +6,7 @@ ghost use Rattle.worklist.specs.Gains.{Gains};
 ghost use Rattle.def_use.specs.Places as spec;
 ghost use Rattle.def_use.specs.PlacesLaws.{back_stays};
 
+use crate::last::last_of;
 use crate::places::{place_at, place_of};
 use block_cfg::Cfg;
 use flow_domain::LocTable;
@@ -38,16 +39,6 @@ fn line_of(point: Point) -> usize
     }
 }
 
-/// How many of the numbers, which rise, are below another.
-fn count_below(numbers: &[usize], end: usize) -> usize
-    requires { AllPairs (λ a b. a ≤ b) numbers.now }
-    ensures within { result ≤ length numbers.now }
-    ensures below { (i d : ℕ) → i < result → slice_index_or numbers.now i d < end }
-    ensures above { (i d : ℕ) → result ≤ i → i < length numbers.now → end ≤ slice_index_or numbers.now i d }
-{
-    numbers.partition_point(|number| *number < end)
-}
-
 impl Back<'_> {
     /// The position at a place, where it writes the location.
     pub(crate) fn writer(&self, place: usize) -> Option<u32>
@@ -68,15 +59,7 @@ impl Back<'_> {
         let points = self.cfg.points();
         let begin = line_of(points[head]).saturating_sub(1);
         let end = line_of(points[place]).saturating_sub(1);
-        let count = count_below(self.writers, end);
-        if count == 0 {
-            return None;
-        }
-        let last = self.writers[count - 1];
-        if last < begin {
-            return None;
-        }
-        Some(last)
+        last_of(self.writers, begin, end)
     }
 
     fn push_entry(&self, place: usize, next: &mut Vec<usize>) -> Result<(), NoMemory>

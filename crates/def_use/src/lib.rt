@@ -4,6 +4,7 @@
 mod back;
 mod defs;
 mod kept;
+mod last;
 mod places;
 mod runs;
 mod search;
@@ -12,3 +13,4 @@ mod writers;
 
 pub use kept::Reach;
 pub use search::reaching;
+pub use writers::Writers;

@@ -1,18 +1,21 @@
 //! The positions that write each location.
 
-ghost use Rattle.std.specs.Prelude.{◌≡◌, ◌≢◌, ◌++◌, ◌∷◌, [], ◌+◌, ◌^◌, ◌<◌, ◌≤◌, ℕ, IfOk, length};
+ghost use Rattle.std.specs.Prelude.{◌≡◌, ◌≢◌, ◌++◌, ◌∷◌, [], ◌+◌, ◌^◌, ◌<◌, ◌≤◌, ℕ, IfOk, MatchOption, length};
+ghost use Rattle.std.specs.List.{AllPairs};
 ghost use Rattle.wasm_types.specs.declared.place.Loc.{Loc};
 ghost use Rattle.flow_domain.specs.LocTables.{HasUse};
+ghost use Rattle.def_use.specs.Last.{HasNoneOf, IsLastOf};
 ghost use Rattle.def_use.specs.Places.{AreWriters};
 ghost use Rattle.def_use.specs.Writers as spec;
 
+use crate::last::last_of;
 use flow_domain::{LocTable, LocUse};
 use std::alloc::Global;
 use wasm_types::{Loc, NoMemory};
 
 /// By the number of each location the positions that write it, in order.
 #[derive(Drop)]
-pub(crate) struct Writers {
+pub struct Writers {
     rows: Vec<Vec<usize>>,
 }
 
@@ -71,7 +74,7 @@ fn add_uses(
 
 impl Writers {
     /// Those of a table. It fails only where memory is refused.
-    pub(crate) fn new(alloc: Global, locs: &LocTable) -> Result<Writers, NoMemory>
+    pub fn new(alloc: Global, locs: &LocTable) -> Result<Writers, NoMemory>
         ensures { IfOk result (λ writers. (x : Loc) → AreWriters locs.now x (spec.writers_of writers.rows.items x)) }
     {
         let mut rows = Vec::new(alloc);
@@ -82,12 +85,21 @@ impl Writers {
     }
 
     /// The positions that write a location, in order.
-    pub(crate) fn of(&self, loc: Loc) -> &[usize]
+    pub fn of(&self, loc: Loc) -> &[usize]
         ensures { result.now ≡ spec.writers_of self.now.rows.items loc }
     {
         match self.rows.get(loc_number(loc)) {
             Some(row) => row.as_slice(),
             None => &[],
         }
+    }
+
+    /// The last position that writes a location, of those from `begin` on that stand before `end`.
+    pub fn last(&self, loc: Loc, begin: usize, end: usize) -> Option<usize>
+        requires { AllPairs (λ a b. a ≤ b) (spec.writers_of self.now.rows.items loc) }
+        ensures { MatchOption result (HasNoneOf (spec.writers_of self.now.rows.items loc) begin end)
+            (λ w. IsLastOf (spec.writers_of self.now.rows.items loc) begin end w) }
+    {
+        last_of(self.of(loc), begin, end)
     }
 }

@@ -4,7 +4,7 @@ use Rattle.std.proofs.lemmas.List.Sorted.{IsPartitionedBy-ltb, IsPartitionPoint-
 use Rattle.std.proofs.Math.Dec.{ltb}
 use Rattle.std.proofs.Common.{ℕ, get_or}
 use Rattle.def_use.proofs.LastWriter.{not_falling}
-use Rattle.def_use.proofs.back.count_below.Goals as goal
+use Rattle.def_use.proofs.last.count_below.Goals as goal
 
 pub returns-clause-below : goal.returns-clause-below
 returns-clause-below c =
