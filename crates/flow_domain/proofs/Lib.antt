@@ -1,4 +1,5 @@
 pub mod KeptLaws
+pub mod KeptBetween
 pub mod Shapes
 pub mod LocLemmas
 pub mod Summing
