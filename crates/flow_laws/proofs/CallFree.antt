@@ -57,11 +57,11 @@ from_writes W (Acts a) x w = w
 from_writes W (Asks g n r) x w = absurd w
 
 -- only an instruction writes
-record Wrote (B : Bounds) (h : Head) (x : Loc) : Type 0 where
+pub record Wrote (B : Bounds) (h : Head) (x : Loc) : Type 0 where
   pub op : Instr
   pub is : h ≡ DoHead op
 
-wrote : (B : Bounds) (h : Head) (x : Loc) → writes_at B h x ≡ true → Wrote B h x
+pub wrote : (B : Bounds) (h : Head) (x : Loc) → writes_at B h x ≡ true → Wrote B h x
 wrote B (DoHead op) x w = record { op = op; is = refl }
 wrote B (BlockHead kind) x w = off_on w
 wrote B (LoopHead kind) x w = off_on w
@@ -83,7 +83,7 @@ head_from B (BrTableHead labels other) x w = absurd w
 head_from B (ReturnHead l) x w = absurd w
 head_from B UnreachableHead x w = absurd w
 
-test_takes : (cs : Callees) (h : Head) → IsTest h → operand_count cs h ≡ 1
+pub test_takes : (cs : Callees) (h : Head) → IsTest h → operand_count cs h ≡ 1
 test_takes cs (DoHead op) t = absurd t
 test_takes cs (BlockHead kind) t = absurd t
 test_takes cs (LoopHead kind) t = absurd t

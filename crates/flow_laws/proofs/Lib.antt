@@ -35,3 +35,4 @@ pub mod SliceReturns
 pub mod Heights
 pub mod CallFree
 pub mod Following
+pub mod KeptServes

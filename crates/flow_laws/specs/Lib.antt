@@ -4,3 +4,4 @@ pub mod Cutting
 pub mod Exact
 pub mod Slices
 pub mod CallFree
+pub mod Kept

@@ -3,6 +3,7 @@
 
 ghost use Rattle.flow_laws.specs.CallFree.{ClosedServes, SlicedReturns};
 ghost use Rattle.flow_laws.specs.Exact.{ExactServes};
+ghost use Rattle.flow_laws.specs.Kept.{KeptServes, SliceForReturns};
 ghost use Rattle.flow_laws.specs.Slices.{SliceReturns};
 ghost use Rattle.flow_laws.specs.Soundness.{DoneSound, RowsSound};
 
@@ -34,4 +35,14 @@ pub fn law_closed_serves()
 /// So whenever a function that calls nothing returns, its sliced module's function returns from the same start, with equal events and no more turns.
 pub fn law_sliced_returns()
     ensures { SlicedReturns }
+{}
+
+/// The kept set of any position of a module, with the nodes whose value is needed, keeps the rules of slices.
+pub fn law_kept_serves()
+    ensures { KeptServes }
+{}
+
+/// So whenever a function returns, its sliced module's function returns from the same start, with equal events and no more turns.
+pub fn law_slice_for_returns()
+    ensures { SliceForReturns }
 {}
