@@ -18,19 +18,19 @@ use Rattle.stack_repair.specs.Told.{is_kept, any_kept, ends_kept, is_present}
 use Rattle.stack_repair.proofs.Takings.{has_given, given_has, IsTaken, EachTaken, taken_in}
 use Rattle.stack_repair.proofs.Takers.{each_at, sites_taken, EachEnd, end_in, ends_append, one_end_taken, ends_taken}
 
-or_left : (a b : Bool) → a ≡ true → (a || b) ≡ true
+pub or_left : (a b : Bool) → a ≡ true → (a || b) ≡ true
 or_left true b e = refl
 or_left false b e = absurd cc
 
-or_right : (a b : Bool) → b ≡ true → (a || b) ≡ true
+pub or_right : (a b : Bool) → b ≡ true → (a || b) ≡ true
 or_right true b e = refl
 or_right false b e = e
 
-or_true : (a b : Bool) → (a || b) ≡ true → (a ≡ true) ⊎ (b ≡ true)
+pub or_true : (a b : Bool) → (a || b) ≡ true → (a ≡ true) ⊎ (b ≡ true)
 or_true true b e = inl refl
 or_true false b e = inr e
 
-any_in : (K : Node → Bool) (xs : List Taker) → any_kept K xs ≡ true → (x : Taker) × Among xs x × (is_kept K x ≡ true)
+pub any_in : (K : Node → Bool) (xs : List Taker) → any_kept K xs ≡ true → (x : Taker) × Among xs x × (is_kept K x ≡ true)
 any_in K [] e = absurd cc
 any_in K (x ∷ xs) e = go (or_true (is_kept K x) (any_kept K xs) e) (any_in K xs)
   where
@@ -39,7 +39,7 @@ any_in K (x ∷ xs) e = go (or_true (is_kept K x) (any_kept K xs) e) (any_in K x
     go (inl q) more = (x, inl refl, q)
     go (inr q) more = let h = more q in (h.0, inr h.1, h.2)
 
-in_any : (K : Node → Bool) (xs : List Taker) (x : Taker) → Among xs x → is_kept K x ≡ true → any_kept K xs ≡ true
+pub in_any : (K : Node → Bool) (xs : List Taker) (x : Taker) → Among xs x → is_kept K x ≡ true → any_kept K xs ≡ true
 in_any K [] x a e = absurd a
 in_any K (y ∷ xs) x (inl q) e = or_left (is_kept K y) (any_kept K xs) (ap (is_kept K) q ∙ e)
 in_any K (y ∷ xs) x (inr q) e = or_right (is_kept K y) (any_kept K xs) (in_any K xs x q e)

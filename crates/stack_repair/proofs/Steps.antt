@@ -1,7 +1,6 @@
 -- What is put for one instruction, and for those after it.
-use Rattle.std.proofs.Common.{◌≡◌, ℕ, zero, suc, ◌+◌, ◌<◌, ◌≤◌, ◌^◌, ◌-◌, List, [], ◌∷◌, ◌++◌, Bool, true, false, Option, Some, None, slice_get, nat_eq, if◌then◌else◌, refl, sym, ap, ap₂, ◌∙◌, subst, arith, append_assoc}
+use Rattle.std.proofs.Common.{◌≡◌, ℕ, zero, suc, ◌+◌, ◌<◌, ◌≤◌, ◌^◌, ◌-◌, List, [], ◌∷◌, ◌++◌, Bool, true, false, Option, Some, None, nat_eq, if◌then◌else◌, refl, sym, ap, ap₂, ◌∙◌, subst, arith, append_assoc}
 use Rattle.wasm_types.specs.declared.module.ValType.{ValType}
-use Rattle.wasm_types.specs.declared.place.Taker.{Taker}
 use Rattle.wasm_types.specs.declared.instr.Instr.{Instr}
 use Rattle.wasm_types.specs.declared.instr.Instr as instr
 use Rattle.wasm_types.specs.declared.instr.Instr.TheVariants as v
@@ -13,7 +12,7 @@ use Rattle.stack_names.specs.Found.{goes_on}
 use Rattle.stack_names.specs.Named.{operands_in, of_node}
 use Rattle.flow_domain.specs.Cut.{pick, drops, zeros, zero_const}
 use Rattle.stack_repair.specs.declared.tally.Tally.{Tally}
-use Rattle.stack_repair.specs.Told.{Told, kind_by, count_present, dropped, dropped_for, filled, filled_for, shown_kind, put_in, put_onward, IsPlace, SamePlace, Puts}
+use Rattle.stack_repair.specs.Told.{Told, any_kept_end, taken_kind, kept_kind, count_present, dropped, dropped_for, filled, filled_for, shown_kind, put_in, put_onward, IsPlace, SamePlace, Puts}
 
 pub ruleset code_steps = (onto-block, onto-loop, onto-if, onto-one)
 
@@ -183,18 +182,18 @@ kept_if D t kind i xs ys made_x made_y rest p p1 q r made made' s s1 s2 s3 m is 
 
 -- ---- what the code has of it
 
-pub filled_plain : (D : Told) (t : Option ValType) (i : Instr) (p : ℕ) (own : Option ValType) (xs : List Taker) → is_plain i ≡ true
+pub filled_plain : (D : Told) (t : Option ValType) (i : Instr) (p : ℕ) → is_plain i ≡ true
     → ((l : ℕ) → i ≡ v.Br l → ⊥) → ((l : ℕ) → i ≡ v.BrIf l → ⊥) → ((ls : List ℕ) (l : ℕ) → i ≡ v.BrTable ls l → ⊥) → (i ≡ v.Return → ⊥) → (i ≡ v.Unreachable → ⊥)
-    → own ≡ slice_get D.kinds p → xs ≡ of_node D.names.takers (At p) → kind_by D.kept own t xs ≡ filled_for D t i p
-filled_plain D t (instr.Block' kind m inner) p own xs h a b c d e f g = absurd cc
-filled_plain D t (instr.Loop' kind m inner) p own xs h a b c d e f g = absurd cc
-filled_plain D t (instr.If' kind m first n second) p own xs h a b c d e f g = absurd cc
-filled_plain D t (instr.Br l) p own xs h a b c d e f g = absurd (a l refl)
-filled_plain D t (instr.BrIf l) p own xs h a b c d e f g = absurd (b l refl)
-filled_plain D t (instr.BrTable ls l) p own xs h a b c d e f g = absurd (c ls l refl)
-filled_plain D t instr.Return p own xs h a b c d e f g = absurd (d refl)
-filled_plain D t instr.Unreachable p own xs h a b c d e f g = absurd (e refl)
-filled_plain D t op p own xs h a b c d e f g = ap₂ {A = Option ValType} {B = List Taker} (λ x y. kind_by D.kept x t y) f g
+    → kept_kind (taken_kind D (At p)) t (any_kept_end D.kept (of_node D.names.takers (At p))) ≡ filled_for D t i p
+filled_plain D t (instr.Block' kind m inner) p h a b c d e = absurd cc
+filled_plain D t (instr.Loop' kind m inner) p h a b c d e = absurd cc
+filled_plain D t (instr.If' kind m first n second) p h a b c d e = absurd cc
+filled_plain D t (instr.Br l) p h a b c d e = absurd (a l refl)
+filled_plain D t (instr.BrIf l) p h a b c d e = absurd (b l refl)
+filled_plain D t (instr.BrTable ls l) p h a b c d e = absurd (c ls l refl)
+filled_plain D t instr.Return p h a b c d e = absurd (d refl)
+filled_plain D t instr.Unreachable p h a b c d e = absurd (e refl)
+filled_plain D t op p h a b c d e = refl
 
 pub leaves_out : (D : Told) (t : Option ValType) (i : Instr) (rest : Code) (p q n : ℕ) (k : Option ValType) (live : Bool) (made a b : List Instr) (s s1 s2 : Tally)
     → D.kept (At p) ≡ false → q ≡ p + count (onto i done) → n ≡ count_present D (dropped_for D i p) → k ≡ filled_for D t i p → live ≡ goes_on i

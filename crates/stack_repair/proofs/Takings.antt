@@ -20,7 +20,7 @@ use Rattle.stack_repair.proofs.Positions.{HasAt, has_front, has_back, length-sit
 
 -- ---- what pairs give to a node
 
-node_same : (m n : Node) → node_eq m n ≡ true → m ≡ n
+pub node_same : (m n : Node) → node_eq m n ≡ true → m ≡ n
 node_same (node.At p) (node.At q) e = ap (λ z. At z) (eqb-true p.0 q.0 e)
 node_same (node.Join b) (node.Join c) e = ap (λ z. Join z) (eqb-true b.0 c.0 e)
 node_same node.Exit node.Exit e = refl
@@ -31,7 +31,7 @@ node_same (node.Join b) node.Exit e = absurd cc
 node_same node.Exit (node.At q) e = absurd cc
 node_same node.Exit (node.Join c) e = absurd cc
 
-node_self : (n : Node) → node_eq n n ≡ true
+pub node_self : (n : Node) → node_eq n n ≡ true
 node_self (node.At p) = eq-eqb p.0 p.0 refl
 node_self (node.Join b) = eq-eqb b.0 b.0 refl
 node_self node.Exit = refl
@@ -58,11 +58,12 @@ given_has (y ∷ L) n x (inr q) = go (node_eq n y.0) (given_has L n x q)
 -- ---- each pair
 
 module _ (c : Context) (S : Sites) (ends : List EndAt) (T : Node → ValType) where
-  -- a position that makes a value is an instruction that leaves one, directly in the sequence after which k stands
+  -- a position that makes a value is an instruction that leaves one, directly in the sequence after which k stands; and a join is that of a position
   abbrev pub MadeIn : Node → Node → Type 0
   MadeIn k (node.At q) =
       (s : Site) × (op : Instr) × IsSite S q.0 s × (s.head ≡ DoHead op) × (1 ≤ leaves (callees c.inside) op) × (join_of s.around 0 ≡ k)
-  MadeIn k _ = Unit {0}
+  MadeIn k (node.Join b) = (s : Site) × IsSite S b.0 s
+  MadeIn k node.Exit = Unit {0}
 
   abbrev pub KindIs : Head → Option ValType → Type 0
   KindIs (BlockHead kind) t = kind ≡ t
@@ -170,7 +171,7 @@ module _ (c : Context) (S : Sites) (ends : List EndAt) (T : Node → ValType) wh
       (each_taken body (L ∷ ctx) (values_of kind ∷ Ls) (Join p) kind (p + 1) [] (has_front S (p + 1) bs rs at.1) ty.1 refl tt (_, at.0, refl)
       (inner_rule (Join p) kind body (p + 1) (λ z a. sub z (among_left e1 (e2 ++ e3) z a))) (λ z a. sub z (among_right e1 (e2 ++ e3) z (among_left e2 e3 z a))))
       (each_taken rest ctx Ls k t e (named (arity kind) (Join p) names) (has_back S (p + 1) e bs rs (omega (arith, length-sites cs body (L ∷ ctx) (Join p) (p + 1) [])) at.1) ty.2 j
-      (all_named k (arity kind) (Join p) names (λ le. tt) h) ow rule (λ z a. sub z (among_right e1 (e2 ++ e3) z (among_right e2 e3 z a))))
+      (all_named k (arity kind) (Join p) names (λ le. (_, at.0)) h) ow rule (λ z a. sub z (among_right e1 (e2 ++ e3) z (among_right e2 e3 z a))))
   each_taken (Loop m kind body rest) ctx Ls k t p names at ty j h ow rule sub =
       let cs = callees c.inside in
       let e = p + 1 + size body in
@@ -184,7 +185,7 @@ module _ (c : Context) (S : Sites) (ends : List EndAt) (T : Node → ValType) wh
       (each_taken body (L ∷ ctx) ([] ∷ Ls) (Join p) kind (p + 1) [] (has_front S (p + 1) bs rs at.1) ty.1 refl tt (_, at.0, refl)
       (inner_rule (Join p) kind body (p + 1) (λ z a. sub z (among_left e1 (e2 ++ e3) z a))) (λ z a. sub z (among_right e1 (e2 ++ e3) z (among_left e2 e3 z a))))
       (each_taken rest ctx Ls k t e (named (arity kind) (Join p) names) (has_back S (p + 1) e bs rs (omega (arith, length-sites cs body (L ∷ ctx) (Join p) (p + 1) [])) at.1) ty.2 j
-      (all_named k (arity kind) (Join p) names (λ le. tt) h) ow rule (λ z a. sub z (among_right e1 (e2 ++ e3) z (among_right e2 e3 z a))))
+      (all_named k (arity kind) (Join p) names (λ le. (_, at.0)) h) ow rule (λ z a. sub z (among_right e1 (e2 ++ e3) z (among_right e2 e3 z a))))
   each_taken (If m kind x y rest) ctx Ls k t p names at ty j h ow rule sub =
       let cs = callees c.inside in
       let f = p + 1 + size x in
@@ -211,7 +212,7 @@ module _ (c : Context) (S : Sites) (ends : List EndAt) (T : Node → ValType) wh
       (each_taken y (L ∷ ctx) (values_of kind ∷ Ls) (Join p) kind f [] (has_front S f ys rs back_x) ty.3 refl tt (_, at.0, refl)
       (inner_rule (Join p) kind y f (λ z a. sub z (among_right e1 _ z (among_left e2 _ z a)))) (λ z a. sub z (among_right e1 _ z (among_right e2 _ z (among_right e3 _ z (among_left e4 _ z a))))))
       (each_taken rest ctx Ls k t e names1 (has_back S f e ys rs (omega (arith, length-sites cs y (L ∷ ctx) (Join p) f [])) back_x) ty.4 j
-      (all_named k (arity kind) (Join p) (drop 1 names) (λ le. tt) (all_drop k 1 names h)) ow rule (λ z a. sub z (among_right e1 _ z (among_right e2 _ z (among_right e3 _ z (among_right e4 e5 z a))))))))
+      (all_named k (arity kind) (Join p) (drop 1 names) (λ le. (_, at.0)) (all_drop k 1 names h)) ow rule (λ z a. sub z (among_right e1 _ z (among_right e2 _ z (among_right e3 _ z (among_right e4 e5 z a))))))))
   each_taken (Br m l rest) ctx Ls k t p names at ty j h ow rule sub = at_taken p (carried (arities ctx) l) k _ names at.0 refl refl h
   each_taken (BrIf m l rest) ctx Ls k t p names at ty j h ow rule sub =
       let cs = callees c.inside in

@@ -1,10 +1,10 @@
 -- What is put for a body, by what is told of it, is its cut.
-use Rattle.std.proofs.Common.{inl, inr, ◌≡◌, ℕ, zero, suc, ◌+◌, ◌≤◌, List, [], ◌∷◌, ◌++◌, Bool, true, false, ◌||◌, Option, Some, None, take, drop, slice_get, nat_eq, if◌then◌else◌, refl, sym, ap, ap₂, ◌∙◌, subst, arith}
+use Rattle.std.proofs.Common.{◌≡◌, ℕ, zero, suc, ◌+◌, ◌≤◌, List, [], ◌∷◌, ◌++◌, Bool, true, false, ◌||◌, Option, Some, None, is_some, take, drop, slice_get, nat_eq, if◌then◌else◌, refl, sym, ap, ap₂, ◌∙◌, subst, arith}
 use Rattle.std.specs.Option.{option_map}
 use Rattle.wasm_types.specs.declared.module.ValType.{ValType}
 use Rattle.wasm_types.specs.declared.place.Node.{Node}
 use Rattle.wasm_types.specs.declared.place.Node.TheVariants as node
-use Rattle.wasm_types.specs.declared.place.Taker.{Taker}
+use Rattle.wasm_types.specs.declared.module.Pos.{Pos}
 use Rattle.wasm_types.specs.declared.place.Taker.TheVariants as taker
 use Rattle.wasm_types.specs.declared.instr.Instr.{Instr}
 use Rattle.wasm_types.specs.declared.instr.Instr as instr
@@ -15,15 +15,14 @@ use Rattle.wasm_types.specs.Validity.{values_of}
 use Rattle.wasm_types.specs.Actions.{Callees, callees, takes, leaves}
 use Rattle.wasm_types.specs.Nodes.{At, Join, named, made}
 use Rattle.wasm_types.specs.Labels.{arity, carried, Label, block_label, loop_label, arities, join_of}
-use Rattle.wasm_types.specs.Sites.{Head, DoHead, BlockHead, LoopHead, IfHead, Site, Sites, IsSite, sites, EndAt, all_operands, Among}
+use Rattle.wasm_types.specs.Sites.{Head, DoHead, BlockHead, LoopHead, IfHead, Site, Sites, IsSite, sites, EndAt, all_operands}
 use Rattle.stack_names.specs.declared.place.Place.{Place}
 use Rattle.stack_names.specs.Found.{top_places}
 use Rattle.stack_names.specs.Named.{Named, operands_of, operands_in, stack_of, stack_in, of_node, transfers, place_of, placed, listed, listed_all}
 use Rattle.stack_names.proofs.PlaceLemmas.{top_placed, one_placed}
 use Rattle.stack_names.proofs.WalkLaw.{size_marked}
-use Rattle.flow_domain.specs.Presence.{AmongFirst}
 use Rattle.flow_domain.specs.Cut.{pick, one_more, shown, zero_const, drops, zeros, filler, result_of, cut}
-use Rattle.stack_repair.specs.Told.{is_kept, any_kept, is_present, Told, present_in, count_present, kind_of_taker, kind_by, shown_kind, put_in}
+use Rattle.stack_repair.specs.Told.{any_kept_end, Told, taken_kind, present_in, count_present, kept_kind, shown_kind, put_in}
 use Rattle.stack_repair.proofs.Typed.{Typed}
 use Rattle.stack_repair.proofs.Positions.{HasAt, has_front, has_back, length-sites}
 use Rattle.stack_repair.proofs.Takings.{MadeIn, KindIs, Owns, IsTaken}
@@ -45,22 +44,6 @@ pub pick_same : (b : Bool) (x x' y y' : Marked) → (b ≡ true → x ≡ x') �
 pick_same true x x' y y' f g = f refl
 pick_same false x x' y y' f g = g refl
 
-none_of : (xs : List Taker) → ((x : Taker) → Among xs x → ⊥) → xs ≡ []
-none_of [] f = refl
-none_of (x ∷ xs) f = absurd (f x (inl refl))
-
--- the type by the first kept taker, where each kept taker gives the same
-kind_told : (K : Node → Bool) (own t : Option ValType) (v : ValType) (c : Marked) (xs : List Taker)
-    → ((x : Taker) → Among xs x → is_kept K x ≡ true → kind_of_taker own t x ≡ Some v)
-    → zeros (kind_by K own t xs) c ≡ pick (any_kept K xs) (Do false (zero_const v) c) c
-kind_told K own t v c [] f = refl
-kind_told K own t v c (x ∷ xs) f = go (is_kept K x) refl (kind_told K own t v c xs (λ y a. f y (inr a)))
-  where
-    go : (b : Bool) → is_kept K x ≡ b → zeros (kind_by K own t xs) c ≡ pick (any_kept K xs) (Do false (zero_const v) c) c
-        → zeros (if b then kind_of_taker own t x else kind_by K own t xs) c ≡ pick (b || any_kept K xs) (Do false (zero_const v) c) c
-    go true e more = ap (λ z. zeros z c) (f x (inl refl) e)
-    go false e more = more
-
 filler_block : (P : Node → Bool) (kind : Option ValType) (n : Node) (c : Marked) (b : Bool) → P n ≡ b → zeros (if b then kind else None) c ≡ filler P kind n c
 filler_block P None n c true e = refl
 filler_block P None n c false e = refl
@@ -72,8 +55,9 @@ if_same m kind x x' y y' r r' e f g = ap (λ z. If m kind z y r) e ∙ ap₂ {A 
 
 module _ (c : Context) (S : Sites) (ends : List EndAt) (T : Node → ValType) (D : Told)
     (rows : D.names.positions ≡ listed_all (callees c.inside) T S)
-    (right : (n : Node) (x : Taker) → Among (of_node D.names.takers n) x → IsTaken c S ends T n x)
-    (kinds : (r q : ℕ) (s : Site) → IsSite S r s → AmongFirst (all_operands (callees c.inside) s.around s.head) s.names (At q) → slice_get D.kinds q ≡ Some (T (At q)))
+    (typed : (n : Node) (v : ValType) → taken_kind D n ≡ Some v → v ≡ T n)
+    (taken : (n : Node) (v : ValType) → taken_kind D n ≡ Some v → (r : Pos) × IsTaken c S ends T n (taker.Instr r))
+    (left : (n : Node) → any_kept_end D.kept (of_node D.names.takers n) ≡ true → (k : Node) × IsTaken c S ends T n (taker.End k))
   where
     abbrev cs : Callees
     cs = callees c.inside
@@ -82,7 +66,7 @@ module _ (c : Context) (S : Sites) (ends : List EndAt) (T : Node → ValType) (D
     K = D.kept
 
     abbrev P : Node → Bool
-    P = is_present D.kept (of_node D.names.takers)
+    P = present_in D
 
     abbrev w : ℕ → Bool
     w = nat_eq D.watched
@@ -135,34 +119,40 @@ module _ (c : Context) (S : Sites) (ends : List EndAt) (T : Node → ValType) (D
 
     fill_same : (p : ℕ) (s : Site) (op : Instr) (k : Node) (t : Option ValType) (x : Marked) → IsSite S p s → s.head ≡ DoHead op → join_of s.around 0 ≡ k
         → Owns c S ends T k t → K (At p) ≡ false
-        → zeros (kind_by K (slice_get D.kinds p) t (of_node D.names.takers (At p))) x ≡ filler P (result_of (leaves cs op) (T (At p))) (At p) x
-    fill_same p s op k t x is head j ow off = go (leaves cs op) refl
+        → zeros (kept_kind (taken_kind D (At p)) t (any_kept_end K (of_node D.names.takers (At p)))) x ≡ filler P (result_of (leaves cs op) (T (At p))) (At p) x
+    fill_same p s op k t x is head j ow off =
+        go (leaves cs op) refl (taken_kind D (At p)) refl (any_kept_end K (of_node D.names.takers (At p))) refl
       where
-        xs : List Taker
-        xs = of_node D.names.takers (At p)
-
         made_at : (k' : Node) → MadeIn c S ends T k' (At p) → (1 ≤ leaves cs op) × (k ≡ k')
         made_at k' (s', op', is', head', le, j') =
             let e = site_one p s s' is is' in
             let f : op' ≡ op = (let g = sym head' ∙ ap (λ (z : Site). z.head) (sym e) ∙ head in cc) in
             (subst (λ z. 1 ≤ leaves cs z) f le, sym j ∙ ap (λ (z : Site). join_of z.around 0) e ∙ j')
 
-        owner_of : (y : Taker) → IsTaken c S ends T (At p) y → 1 ≤ leaves cs op
-        owner_of (taker.Instr r) h = (made_at h.0 h.1).0
-        owner_of (taker.End k') h = (made_at k' h.0).0
+        by_instr : (v : ValType) → taken_kind D (At p) ≡ Some v → 1 ≤ leaves cs op
+        by_instr v e = let h = (taken (At p) v e).1 in (made_at h.0 h.1).0
 
-        kind_of : (y : Taker) → IsTaken c S ends T (At p) y → kind_of_taker (slice_get D.kinds p) t y ≡ Some (T (At p))
-        kind_of (taker.Instr r) (k', m, s', is', a) = kinds r.0 p s' is' a
-        kind_of (taker.End k') (m, e, a, o, f, t', ow', q) =
-            owns_one k' t t' (subst (λ z. Owns c S ends T z t) (made_at k' m).1 ow) ow' ∙ q
+        by_end : any_kept_end K (of_node D.names.takers (At p)) ≡ true → (1 ≤ leaves cs op) × (t ≡ Some (T (At p)))
+        by_end e = of_end (left (At p) e).0 (left (At p) e).1
+          where
+            of_end : (k' : Node) → IsTaken c S ends T (At p) (taker.End k') → (1 ≤ leaves cs op) × (t ≡ Some (T (At p)))
+            of_end k' (m, y, a, o, f, t', ow', q) = ((made_at k' m).0, owns_one k' t t' (subst (λ z. Owns c S ends T z t) (made_at k' m).1 ow) ow' ∙ q)
 
-        go : (n : ℕ) → leaves cs op ≡ n → zeros (kind_by K (slice_get D.kinds p) t xs) x ≡ filler P (result_of n (T (At p))) (At p) x
-        go zero e =
-            let none : xs ≡ [] = none_of xs (λ y a. let le = owner_of y (right (At p) y a) in absurd (omega arith)) in
-            ap (λ z. zeros (kind_by K (slice_get D.kinds p) t z) x) none
-        go (suc n) e =
-            kind_told K (slice_get D.kinds p) t (T (At p)) x xs (λ y a on. kind_of y (right (At p) y a))
-            ∙ ap (λ z. pick (z || any_kept K xs) (Do false (zero_const (T (At p))) x) x) (sym off)
+        go : (n : ℕ) → leaves cs op ≡ n → (o : Option ValType) → taken_kind D (At p) ≡ o → (b : Bool) → any_kept_end K (of_node D.names.takers (At p)) ≡ b
+            → zeros (kept_kind o t b) x ≡ filler P (result_of n (T (At p))) (At p) x
+        go zero e (Some v) f b g = let le = by_instr v f in absurd (omega arith)
+        go zero e None f true g = let le = (by_end g).0 in absurd (omega arith)
+        go zero e None f false g = refl
+        go (suc n) e (Some v) f b g =
+            ap (λ z. Do false (zero_const z) x) (typed (At p) v f)
+            ∙ ap (λ z. pick z (Do false (zero_const (T (At p))) x) x) (sym (ap₂ {A = Bool} {B = Option ValType} (λ y z. y || (is_some z || any_kept_end K (of_node D.names.takers (At p)))) off f))
+        go (suc n) e None f b g =
+            zeros_of b g
+            ∙ ap (λ z. pick z (Do false (zero_const (T (At p))) x) x) (sym (ap₂ {A = Bool} {B = Option ValType} (λ y z. y || (is_some z || any_kept_end K (of_node D.names.takers (At p)))) off f ∙ g))
+          where
+            zeros_of : (b : Bool) → any_kept_end K (of_node D.names.takers (At p)) ≡ b → zeros (if b then t else None) x ≡ pick b (Do false (zero_const (T (At p))) x) x
+            zeros_of true g = ap (λ z. zeros z x) (by_end g).1
+            zeros_of false g = refl
 
     -- ---- a sequence
 
@@ -194,7 +184,7 @@ module _ (c : Context) (S : Sites) (ends : List EndAt) (T : Node → ValType) (D
         let r = told_is rest ctx Ls k t (p + 1) (made cs p op names) at.1 ty.1 j ow in
         pick_same (K (At p)) _ _ _ _ (λ on. ap (λ z. Do (w p) op z) r)
         (λ off. drops_of 0 _ (take (takes cs op) names) _ _ (operands_at p _ at.0)
-        (ap (λ z. zeros (kind_by K (slice_get D.kinds p) t (of_node D.names.takers (At p))) z) r ∙ fill_same p _ op k t _ at.0 refl j ow off))
+        (ap (λ z. zeros (kept_kind (taken_kind D (At p)) t (any_kept_end K (of_node D.names.takers (At p)))) z) r ∙ fill_same p _ op k t _ at.0 refl j ow off))
     told_is (block kind inner rest) ctx Ls k t p names at ty j ow =
         let b = marked w (p + 1) inner in
         let e = p + 1 + size b in

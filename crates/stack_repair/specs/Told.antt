@@ -1,8 +1,7 @@
 -- What a cut puts for the code of a body, by what is told of the body's values and of the kept nodes (docs/ANALYSES.md, "The cut", "Present places").
-use Rattle.std.specs.Prelude.{◌≡◌, ℕ, zero, suc, ◌+◌, ◌-◌, ◌<◌, ◌^◌, List, [], ◌∷◌, ◌++◌}
-use Rattle.std.specs.Prelude.{Bool, true, false, ◌||◌, Option, Some, None, slice_get, slice_set, replicate, nat_eq, if◌then◌else◌}
+use Rattle.std.specs.Prelude.{◌≡◌, ℕ, zero, suc, ◌+◌, ◌-◌, ◌*◌, ◌<◌, ◌^◌, List, [], ◌∷◌, ◌++◌}
+use Rattle.std.specs.Prelude.{Bool, true, false, ◌||◌, Option, Some, None, is_some, slice_get, slice_set, replicate, nat_eq, if◌then◌else◌}
 use Rattle.wasm_types.specs.declared.module.ValType.{ValType}
-use Rattle.wasm_types.specs.declared.module.ValType.TheVariants as kind
 use Rattle.wasm_types.specs.declared.module.Body.{Body}
 use Rattle.wasm_types.specs.declared.place.Node.{Node}
 use Rattle.wasm_types.specs.declared.place.Node.TheVariants as node
@@ -13,6 +12,7 @@ use Rattle.wasm_types.specs.declared.instr.Instr as instr
 use Rattle.wasm_types.specs.Code.{Code, done, one, block, repeat, branch, code_of, count, list_of}
 use Rattle.wasm_types.specs.Marked.{Marked, End, Block, Loop, If, plain, unmarked, marks, first_mark}
 use Rattle.wasm_types.specs.Nodes.{At, Join}
+use Rattle.block_cfg.specs.Graph.{number}
 use Rattle.stack_names.specs.declared.place.Place.{Place}
 use Rattle.stack_names.specs.Found.{goes_on, top_places}
 use Rattle.stack_names.specs.Named.{Named, operands_in, stack_in, of_node}
@@ -34,6 +34,15 @@ abbrev pub any_kept : (Node → Bool) → List Taker → Bool
 any_kept K [] = false
 any_kept K (x ∷ xs) = is_kept K x || any_kept K xs
 
+-- among them is the end of a kept block, loop or arm, or of the body
+abbrev pub is_kept_end : (Node → Bool) → Taker → Bool
+is_kept_end K (taker.End k) = is_kept K (taker.End k)
+is_kept_end K (taker.Instr p) = false
+
+abbrev pub any_kept_end : (Node → Bool) → List Taker → Bool
+any_kept_end K [] = false
+any_kept_end K (x ∷ xs) = is_kept_end K x || any_kept_end K xs
+
 -- it is the end of a kept block, loop or if
 abbrev pub ends_kept : (Node → Bool) → Node → Bool
 ends_kept K (node.Join b) = K (node.At b)
@@ -48,28 +57,33 @@ is_present K takers n = K n || (ends_kept K n || any_kept K (takers n))
 pub record Told : Type 0 where
   pub kept : Node → Bool
   pub names : Named
-  -- the types of the values that instructions take, by the positions that make them
-  pub kinds : List ValType
+  -- the types of the values that kept instructions take, by the numbers of the nodes that make them
+  pub kinds : List (Option ValType)
   pub watched : ℕ
 
 abbrev pub told : Plan → Told
 told plan = record { kept = holds plan.kept.now; names = plan.names.now; kinds = plan.kinds.items; watched = plan.watched.0 }
 
+-- the type of the value that a node makes, where a kept instruction takes it
+abbrev pub kind_or_none : Option (Option ValType) → Option ValType
+kind_or_none None = None
+kind_or_none (Some k) = k
+
+abbrev pub taken_kind : Told → Node → Option ValType
+taken_kind D n = kind_or_none (slice_get D.kinds (number n))
+
+-- Of the takers the names tell the ends alone.
 abbrev pub present_in : Told → Node → Bool
-present_in D n = is_present D.kept (of_node D.names.takers) n
+present_in D n = D.kept n || (ends_kept D.kept n || (is_some (taken_kind D n) || any_kept_end D.kept (of_node D.names.takers n)))
 
 abbrev pub count_present : Told → List Place → ℕ
 count_present D [] = 0
 count_present D (pl ∷ pls) = one_more (present_in D pl.maker) (count_present D pls)
 
--- The type of a value by the first of its takers that is kept: this one where an instruction takes it, and the result of its sequence where an end does.
-abbrev pub kind_of_taker : (own t : Option ValType) → Taker → Option ValType
-kind_of_taker own t (taker.Instr p) = own
-kind_of_taker own t (taker.End k) = t
-
-abbrev pub kind_by : (Node → Bool) → (own t : Option ValType) → List Taker → Option ValType
-kind_by K own t [] = None
-kind_by K own t (x ∷ xs) = if is_kept K x then kind_of_taker own t x else kind_by K own t xs
+-- The type of a value by what keeps it: this one where a kept instruction takes it, and the result of its sequence where a kept end does.
+abbrev pub kept_kind : (own t : Option ValType) → Bool → Option ValType
+kept_kind (Some k) t ends = Some k
+kept_kind None t ends = if ends then t else None
 
 -- the type of what a block, loop or if leaves, where that is present
 abbrev pub shown_kind : Told → Option ValType → ℕ → Option ValType
@@ -93,7 +107,7 @@ filled D t (instr.BrIf l) p = None
 filled D t (instr.BrTable labels other) p = t
 filled D t instr.Return p = t
 filled D t instr.Unreachable p = t
-filled D t op p = kind_by D.kept (slice_get D.kinds p) t (of_node D.names.takers (At p))
+filled D t op p = kept_kind (taken_kind D (At p)) t (any_kept_end D.kept (of_node D.names.takers (At p)))
 
 -- the same of any instruction
 abbrev pub dropped_for : Told → Instr → ℕ → List Place
@@ -146,25 +160,21 @@ abbrev pub Puts : List Instr → Tally → Marked → List Instr → Tally → M
 Puts made s X made' s' X' =
     (made ++ list_of (unmarked X) ≡ made' ++ list_of (unmarked X')) × ((ms : List Bool) → SamePlace s (marks X ++ ms) s' (marks X' ++ ms))
 
--- ---- the types of the values that instructions take, by the positions that make them
+-- ---- the types of the values that kept instructions take, by the numbers of the nodes that make them
 
-abbrev pub kind_at : List ValType → Node → ValType → List ValType
-kind_at kinds (node.At p) k = slice_set kinds p.0 k
-kind_at kinds _ k = kinds
+abbrev pub with_kind : List (Option ValType) → Place → List (Option ValType)
+with_kind kinds pl = slice_set kinds (number pl.maker) (Some pl.kind)
 
-abbrev pub with_kind : List ValType → Place → List ValType
-with_kind kinds pl = kind_at kinds pl.maker pl.kind
-
-abbrev pub noted : List ValType → List Place → List ValType
+abbrev pub noted : List (Option ValType) → List Place → List (Option ValType)
 noted kinds [] = kinds
 noted kinds (pl ∷ pls) = noted (with_kind kinds pl) pls
 
--- those of the operands of the first so many positions
-abbrev pub noted_to : Named → ℕ → List ValType → List ValType
-noted_to names zero kinds = kinds
-noted_to names (suc n) kinds = noted (noted_to names n kinds) (operands_in names.positions n)
+-- those of the operands of the kept ones of the first so many positions
+abbrev pub noted_to : (Node → Bool) → Named → ℕ → List (Option ValType) → List (Option ValType)
+noted_to K names zero kinds = kinds
+noted_to K names (suc n) kinds = if K (At n) then noted (noted_to K names n kinds) (operands_in names.positions n) else noted_to K names n kinds
 
 -- what is told of a body, by the names of its values, its kept nodes and the watched position
 abbrev pub told_of : Named → (Node → Bool) → Body → ℕ → Told
 told_of names K b i =
-    let n = count (code_of b.code) in record { kept = K; names = names; kinds = noted_to names n (replicate n kind.I32); watched = i }
+    let n = count (code_of b.code) in record { kept = K; names = names; kinds = noted_to K names n (replicate (2 * n + 1) None); watched = i }

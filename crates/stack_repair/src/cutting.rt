@@ -5,7 +5,7 @@ ghost use Rattle.wasm_types.specs.Code.{Code, code_of, count, done, list_of, ont
 ghost use Rattle.wasm_types.specs.Marked.{marks, unmarked, watched_at};
 ghost use Rattle.wasm_types.specs.Nodes.{At};
 ghost use Rattle.wasm_types.specs.Spaces.{func_types, import_count};
-ghost use Rattle.stack_names.specs.Named.{AreNames};
+ghost use Rattle.stack_names.specs.Ends.{HasEnds};
 ghost use Rattle.flow_domain.specs.KeptSets.{holds};
 ghost use Rattle.flow_domain.specs.Sliced.{result_type, with_code};
 ghost use Rattle.stack_repair.specs.Cuts.{IsCut};
@@ -187,7 +187,7 @@ fn cut_body(
     ensures code { IfOk result (λ cut. cut.body ≡ with_code (put_in (told_of names.now (holds kept.now) body.now at.0) left (code_of body.now.code) 0) body.now) }
     ensures place { IfOk result (λ cut. (k : ℕ) → k < 2 ^ 32 - 1 → watched_at (put_in (told_of names.now (holds kept.now) body.now at.0) left (code_of body.now.code) 0) ≡ k → cut.at.0 ≡ k) }
 {
-    let kinds = taken_kinds(alloc, names, body.count())?;
+    let kinds = taken_kinds(alloc, kept, names, body.count())?;
     let plan = Plan {
         names,
         kept,
@@ -220,7 +220,7 @@ pub fn cut(
 ) -> Result<CutBody, NoMemory>
     requires imported { import_count m.now ≤ func }
     requires own { func < length (func_types m.now) }
-    requires names { (w : ℕ → Bool) → AreNames m.now func w names.now }
+    requires names { (w : ℕ → Bool) → HasEnds m.now func w names.now }
     ensures { IfOk result (λ cut. IsCut m.now func (holds kept.now) at.0 cut.body cut.at.0) }
 {
     let module = m.module();
