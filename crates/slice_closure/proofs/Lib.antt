@@ -14,3 +14,5 @@ pub mod Exact
 pub mod Right
 pub mod Dead
 pub mod Searching
+pub mod Heads
+pub mod Placed

@@ -9,9 +9,10 @@ use Rattle.block_cfg.proofs.MemberLemmas.{number_injective}
 use Rattle.worklist.specs.Gains.{Gains}
 use Rattle.worklist.specs.Packed.{PackedEdge}
 use Rattle.worklist.proofs.Pushing.{gains_same}
+use Rattle.called_rows.specs.Locs.{loc_number as outer_number, IsLoc}
 use Rattle.slice_closure.specs.declared.items.Item.{Item}
-use Rattle.slice_closure.specs.declared.items.Item.TheVariants.{Keeps, Needs}
-use Rattle.slice_closure.specs.Items.{loc_number, item_number, IsItem, Numbered}
+use Rattle.slice_closure.specs.declared.items.Item.TheVariants.{Keeps, Value, Written, Needs}
+use Rattle.slice_closure.specs.Items.{loc_number, node_of, kind_number, item_number, IsItem, Numbered}
 
 pub loc_injective : (x y : Loc) → loc_number x ≡ loc_number y → x ≡ y
 loc_injective loc.Mem loc.Mem e = refl
@@ -40,6 +41,34 @@ loc_injective (loc.Global j) loc.Size e = absurd (omega arith)
 loc_injective (loc.Global j) loc.Host e = absurd (omega arith)
 loc_injective (loc.Global j) (loc.Local k) e = absurd (omega arith)
 
+-- the module's locations that are no locals have numbers of their own, too
+pub outer_once : (g : ℕ) (x y : Loc) → IsLoc g 0 x → IsLoc g 0 y → outer_number g x ≡ outer_number g y → x ≡ y
+outer_once g loc.Mem loc.Mem ok ok' e = refl
+outer_once g loc.Mem loc.Size ok ok' e = absurd (omega arith)
+outer_once g loc.Mem loc.Host ok ok' e = absurd (omega arith)
+outer_once g loc.Mem (loc.Local k) ok ok' e = absurd (omega arith)
+outer_once g loc.Mem (loc.Global k) ok ok' e = absurd (omega arith)
+outer_once g loc.Size loc.Mem ok ok' e = absurd (omega arith)
+outer_once g loc.Size loc.Size ok ok' e = refl
+outer_once g loc.Size loc.Host ok ok' e = absurd (omega arith)
+outer_once g loc.Size (loc.Local k) ok ok' e = absurd (omega arith)
+outer_once g loc.Size (loc.Global k) ok ok' e = absurd (omega arith)
+outer_once g loc.Host loc.Mem ok ok' e = absurd (omega arith)
+outer_once g loc.Host loc.Size ok ok' e = absurd (omega arith)
+outer_once g loc.Host loc.Host ok ok' e = refl
+outer_once g loc.Host (loc.Local k) ok ok' e = absurd (omega arith)
+outer_once g loc.Host (loc.Global k) ok ok' e = absurd (omega arith)
+outer_once g (loc.Local j) loc.Mem ok ok' e = absurd (omega arith)
+outer_once g (loc.Local j) loc.Size ok ok' e = absurd (omega arith)
+outer_once g (loc.Local j) loc.Host ok ok' e = absurd (omega arith)
+outer_once g (loc.Local j) (loc.Local k) ok ok' e = absurd (omega arith)
+outer_once g (loc.Local j) (loc.Global k) ok ok' e = absurd (omega arith)
+outer_once g (loc.Global j) loc.Mem ok ok' e = absurd (omega arith)
+outer_once g (loc.Global j) loc.Size ok ok' e = absurd (omega arith)
+outer_once g (loc.Global j) loc.Host ok ok' e = absurd (omega arith)
+outer_once g (loc.Global j) (loc.Local k) ok ok' e = absurd (omega arith)
+outer_once g (loc.Global j) (loc.Global k) ok ok' e = let same : j ≡ k = omega arith in ap loc.Global same
+
 -- two rows of numbers below N meet in one alone
 row_less : (N a b i j : ℕ) → i < N → a * N + i ≡ b * N + j → a < b → ⊥
 row_less N a b i j lt e less =
@@ -56,17 +85,34 @@ row_one N a b i j lt lt' e = elim (cases_lt a b) [
   ]
 ]
 
+-- an item by its node and what is asked of it
+same_item : (i j : Item) → kind_number i ≡ kind_number j → node_of i ≡ node_of j → i ≡ j
+same_item (Keeps n) (Keeps m) e same = ap Keeps same
+same_item (Value n) (Value m) e same = ap Value same
+same_item (Written x n) (Written y m) e same =
+    let one : x ≡ y = loc_injective x y (omega arith) in ap (λ z. Written z n) one ∙ ap (λ z. Written y z) same
+same_item (Needs x n) (Needs y m) e same = let one : x ≡ y = loc_injective x y (omega arith) in ap (λ z. Needs z n) one ∙ ap (λ z. Needs y z) same
+same_item (Keeps n) (Value m) e same = absurd (omega arith)
+same_item (Keeps n) (Written y m) e same = absurd (omega arith)
+same_item (Keeps n) (Needs y m) e same = absurd (omega arith)
+same_item (Value n) (Keeps m) e same = absurd (omega arith)
+same_item (Value n) (Written y m) e same = absurd (omega arith)
+same_item (Value n) (Needs y m) e same = absurd (omega arith)
+same_item (Written x n) (Keeps m) e same = absurd (omega arith)
+same_item (Written x n) (Value m) e same = absurd (omega arith)
+same_item (Written x n) (Needs y m) e same = absurd (omega arith)
+same_item (Needs x n) (Keeps m) e same = absurd (omega arith)
+same_item (Needs x n) (Value m) e same = absurd (omega arith)
+same_item (Needs x n) (Written y m) e same = absurd (omega arith)
+
 pub item_one : (N L : ℕ) (i j : Item) → IsItem N L i → IsItem N L j → item_number N i ≡ item_number N j → i ≡ j
-item_one N L (Keeps n) (Keeps m) lt lt' e = ap Keeps (number_injective n m e)
-item_one N L (Keeps n) (Needs y m) lt (below, lt') e =
-    let one : 0 ≡ loc_number y + 1 = row_one N 0 (loc_number y + 1) (number n) (number m) lt lt' (omega arith) in absurd (omega arith)
-item_one N L (Needs x n) (Keeps m) (below, lt) lt' e =
-    let one : loc_number x + 1 ≡ 0 = row_one N (loc_number x + 1) 0 (number n) (number m) lt lt' (omega arith) in absurd (omega arith)
-item_one N L (Needs x n) (Needs y m) (below, lt) (below', lt') e =
-    let one : loc_number x + 1 ≡ loc_number y + 1 = row_one N (loc_number x + 1) (loc_number y + 1) (number n) (number m) lt lt' e in
-    let same : x ≡ y = loc_injective x y (omega arith) in
-    let here : number n ≡ number m = let f : (loc_number x + 1) * N ≡ (loc_number y + 1) * N = ap (λ k. k * N) one in omega arith in
-    ap (λ z. Needs z n) same ∙ ap (λ z. Needs y z) (number_injective n m here)
+item_one N L i j ok ok' e =
+    let a = kind_number i in
+    let b = kind_number j in
+    let one : a ≡ b = row_one N a b (number (node_of i)) (number (node_of j)) ok.1 ok'.1 e in
+    let rows : a * N ≡ b * N = ap (λ k. k * N) one in
+    let here : number (node_of i) ≡ number (node_of j) = omega arith in
+    same_item i j one (number_injective (node_of i) (node_of j) here)
 
 -- what an item leads to is what its number leads to
 pub packed_gains : (N L : ℕ) (Edge : Item → Item → Type 0) (i : Item) (x : ℕ) (old new : List ℕ) → IsItem N L i → item_number N i ≡ x

@@ -12,7 +12,7 @@ use Rattle.slice_closure.specs.Next.{First, Next}
 next_onward : (t : Tables) (n m : Node) → Onward (code_of t.body.now.code) (nearest_in t.deciders.now) n m → Next t (Keeps n) (Keeps m)
 next_onward t n _ (earlier p e) = inr (inr (inl (p, (e, refl))))
 next_onward t n _ (latest p e) = inr (inr (inr (p, (e, refl))))
-next_onward t _ _ (around {q} b is) = inl (inr (inr (b, (λ nested. is, refl))))
+next_onward t _ _ (around {q} b is) = inl (inr (b, (λ nested. is, refl)))
 next_onward t _ _ (own_join {b}) = inl refl
 
 pub finds_met : (t : Tables) (at : Pos) (n m : Node) → Finds (code_of t.body.now.code) (nearest_in t.deciders.now) n m

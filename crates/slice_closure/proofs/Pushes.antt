@@ -20,14 +20,22 @@ use Rattle.control_deps.specs.Nest.{IsAround, IsNestOf}
 use Rattle.slice_closure.specs.declared.tables.Tables.{Tables}
 use Rattle.worklist.specs.Gains.{Gains}
 use Rattle.worklist.proofs.Pushing.{gains_none, gains_push, gains_same, gains_then}
+use Rattle.std.proofs.lemmas.Option.{same_Some, slice_get-get_or}
+use Rattle.stack_names.specs.declared.place.Place.{Place}
+use Rattle.flow_domain.specs.Rows.{Output}
+use Rattle.called_rows.specs.declared.instrs.Whom.{Whom}
+use Rattle.called_rows.specs.Called.{globals_in, RowIn, TakesIn}
+use Rattle.called_rows.specs.Locs.{loc_number as outer_number, IsLoc}
 use Rattle.slice_closure.specs.declared.items.Item.{Item}
+use Rattle.slice_closure.specs.declared.items.Item.TheVariants.{Needs}
 use Rattle.slice_closure.specs.declared.spot.Spot.{Spot}
 use Rattle.slice_closure.specs.declared.spot.Touch.{Touch}
 use Rattle.slice_closure.specs.declared.spot.Touch.TheVariants as touch
 use Rattle.slice_closure.specs.declared.spot.Came.TheVariants.{After}
 use Rattle.slice_closure.specs.Flow.{AsksBelow, touch_at, ways_to}
 use Rattle.slice_closure.specs.Items.{loc_number, item_number, Numbered}
-use Rattle.slice_closure.specs.Next.{FromEach, Asks, Arrives, Passes, Fits, IsHolder}
+use Rattle.slice_closure.specs.Next.{FromEach, FromBelow, value_item, Maker, ArgumentAt, InputAt, Asks, Arrives, Passes, Fits, IsHolder}
+use Rattle.slice_closure.proofs.Numbers.{outer_once}
 
 none_there : {A : Type 0} (x : A) → Contains [] x → ⊥
 none_there x (k, lt, is) = omega arith
@@ -77,6 +85,56 @@ pub each_all : {A : Type 0} (N : ℕ) (Q : A → Item → Type 0) (list all : Li
     → Gains (Numbered N (FromEach (take i list) Q)) xs ys → Gains (Numbered N (FromEach all Q)) xs ys
 each_all {A} N Q list all i xs ys le same g =
     subst (λ (z : List A). Gains (Numbered N (FromEach z Q)) xs ys) (take_all i list le ∙ same) g
+
+-- ---- each number below a bound
+
+pub below_start : (N : ℕ) (Q : ℕ → Item → Type 0) (xs : List ℕ) → Gains (Numbered N (FromBelow 0 Q)) xs xs
+below_start N Q xs = numbered_none N (FromBelow 0 Q) xs (λ j (k, (lt, q)). omega arith)
+
+pub below_next : (N : ℕ) (Q : ℕ → Item → Type 0) (i : ℕ) (xs ys zs : List ℕ) → Gains (Numbered N (FromBelow i Q)) xs ys → Gains (Numbered N (Q i)) ys zs
+    → Gains (Numbered N (FromBelow (i + 1) Q)) xs zs
+below_next N Q i xs ys zs g h = numbered_same N (λ j. FromBelow i Q j ⊎ Q i j) (FromBelow (i + 1) Q) xs zs
+    (λ j r. ⊎_elim (λ (k, (lt, q)). (k, (omega arith, q))) (λ q. (i, (omega arith, q))) r)
+    (λ j (k, (lt, q)). elim (cases_lt k i) [
+      | inl less ↦ inl (k, (less, q))
+      | inr ge ↦ let e : k ≡ i = omega arith in inr (subst (λ n. Q n j) e q)
+    ])
+    (numbered_both N (FromBelow i Q) (Q i) xs ys zs g h)
+
+pub below_all : (N : ℕ) (Q : ℕ → Item → Type 0) (i n : ℕ) (xs ys : List ℕ) → i ≡ n → Gains (Numbered N (FromBelow i Q)) xs ys
+    → Gains (Numbered N (FromBelow n Q)) xs ys
+below_all N Q i n xs ys e g = subst (λ k. Gains (Numbered N (FromBelow k Q)) xs ys) e g
+
+-- ---- what a call needs
+
+-- where the output depends on the operand
+pub argument_gains : (N : ℕ) (t : Tables) (places : List Place) (o : Output) (w : Whom) (k : ℕ) (d : Place) (xs ys : List ℕ) → k < length places
+    → TakesIn t.called w o (length places) k → Gains (Numbered N (Maker t (get_or places k d))) xs ys → Gains (Numbered N (ArgumentAt t places o w k)) xs ys
+argument_gains N t places o w k d xs ys lt on g =
+    let here = get_or places k d in
+    let got : slice_get places k ≡ Some here = slice_get-get_or places k d lt in
+    numbered_same N (Maker t here) (ArgumentAt t places o w k) xs ys
+    (λ j e. (on, (here, (got, e))))
+    (λ j (needed, (place, (is, e))). e ∙ ap (λ (q : Place). value_item t q.maker) (same_Some place here (sym is ∙ got)))
+    g
+
+pub argument_none : (N : ℕ) (t : Tables) (places : List Place) (o : Output) (w : Whom) (k : ℕ) (xs : List ℕ)
+    → (TakesIn t.called w o (length places) k → ⊥) → Gains (Numbered N (ArgumentAt t places o w k)) xs xs
+argument_none N t places o w k xs off = numbered_none N (ArgumentAt t places o w k) xs (λ j (on, h). off on)
+
+-- where it depends on the location
+pub input_gains : (N : ℕ) (t : Tables) (p : ℕ) (o : Output) (w : Whom) (i : ℕ) (x : Loc) (xs ys : List ℕ) → IsLoc (globals_in t.called) 0 x
+    → outer_number (globals_in t.called) x ≡ i → RowIn t.called w o x → Gains (Numbered N (λ j. j ≡ Needs x (At p))) xs ys
+    → Gains (Numbered N (InputAt t p o w i)) xs ys
+input_gains N t p o w i x xs ys ok at row g = numbered_same N (λ j. j ≡ Needs x (At p)) (InputAt t p o w i) xs ys
+    (λ j e. (x, (ok, (at, (row, e)))))
+    (λ j (y, (ok', (at', (row', e)))). e ∙ ap (λ z. Needs z (At p)) (outer_once (globals_in t.called) y x ok' ok (at' ∙ sym at)))
+    g
+
+pub input_none : (N : ℕ) (t : Tables) (p : ℕ) (o : Output) (w : Whom) (i : ℕ) (x : Loc) (xs : List ℕ) → IsLoc (globals_in t.called) 0 x
+    → outer_number (globals_in t.called) x ≡ i → (RowIn t.called w o x → ⊥) → Gains (Numbered N (InputAt t p o w i)) xs xs
+input_none N t p o w i x xs ok at off = numbered_none N (InputAt t p o w i) xs
+    (λ j (y, (ok', (at', (row, e)))). off (subst (λ z. RowIn t.called w o z) (outer_once (globals_in t.called) y x ok' ok (at' ∙ sym at)) row))
 
 -- ---- what is around a position is one
 
@@ -130,7 +188,7 @@ loads_fit L t fits is = let lt : loc_number Size < L = subst (AsksBelow L) is fi
 pub stores_fit : (L : ℕ) (t : Touch) → AsksBelow L t → t ≡ touch.Stores → 2 ≤ L
 stores_fit L t fits is = let lt : loc_number Size < L = subst (AsksBelow L) is fits 1 Mem (omega arith) in omega arith
 
-asks_more : (b c : ℕ) (t : Touch) → b ≤ c → AsksBelow b t → AsksBelow c t
+pub asks_more : (b c : ℕ) (t : Touch) → b ≤ c → AsksBelow b t → AsksBelow c t
 asks_more b c t le h k d lt = let below = h k d lt in omega arith
 
 touch_read : (spots : List Spot) (i : ℕ) (d : Spot) → i < length spots → touch_at (slice_get spots i) ≡ (get_or spots i d).touch

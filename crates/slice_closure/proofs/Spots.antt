@@ -8,7 +8,7 @@ use Rattle.wasm_types.specs.declared.instr.Instr.{Instr}
 use Rattle.wasm_types.specs.declared.instr.Instr as instr
 use Rattle.wasm_types.specs.declared.place.Loc.{Loc}
 use Rattle.wasm_types.specs.declared.place.Loc.TheVariants.{Mem, Size}
-use Rattle.wasm_types.specs.Actions.{Action, Form, Plain, form_of}
+use Rattle.wasm_types.specs.Actions.{Action, Form, NoForm, Plain, CallOf, CallBy, form_of}
 use Rattle.wasm_types.specs.Actions as action
 use Rattle.wasm_types.specs.Code.{Code, done, one, block, repeat, branch, count}
 use Rattle.wasm_types.specs.Nodes.{At, Join}
@@ -19,15 +19,14 @@ use Rattle.flow_domain.specs.declared.loc_table.LocUse.{LocUse}
 use Rattle.flow_domain.specs.LocRows.{reading, checking, writing, changing, uses_of, if_live, rows_of}
 use Rattle.flow_domain.specs.LocRows as rows
 use Rattle.flow_domain.specs.LocTables.{HasUse}
+use Rattle.called_rows.specs.Whom.{whom_by}
 use Rattle.slice_closure.specs.declared.spot.Came.{Came}
 use Rattle.slice_closure.specs.declared.spot.Spot.{Spot}
-use Rattle.slice_closure.specs.declared.spot.Taken.{Taken}
 use Rattle.slice_closure.specs.declared.spot.Touch.{Touch}
 use Rattle.slice_closure.specs.declared.spot.Touch.TheVariants as touch
 use Rattle.slice_closure.specs.declared.items.Item.{Item}
 use Rattle.slice_closure.specs.declared.items.Item.TheVariants.{Needs}
-use Rattle.slice_closure.specs.Takens.{taken_by, takens}
-use Rattle.slice_closure.specs.Flow.{uses_in, written_by, touch_in, touch_by, touch_of, touch_at, taken_is, through, onward, holder, spots_in}
+use Rattle.slice_closure.specs.Flow.{uses_in, written_by, touch_in, touch_by, touch_of, touch_at, whom_in_touch, taken_is, through, onward, holder, spots_in, Doing, does_by, doings}
 use Rattle.slice_closure.specs.Next.{Asks}
 use Rattle.slice_closure.proofs.Coming.{came_live, through_live, onward_live}
 
@@ -35,41 +34,41 @@ map_both : {A B : Type 0} (f : A → B) (xs ys : List A) → map f (xs ++ ys) �
 map_both f [] ys = refl
 map_both f (x ∷ xs) ys = ap (λ zs. f x ∷ zs) (map_both f xs ys)
 
--- ---- operands
+-- ---- what positions take and touch
 
-abbrev taken_in : Spot → Taken
-taken_in spot = spot.taken
+abbrev doing_in : Spot → Doing
+doing_in spot = (spot.taken, spot.touch)
 
-spots_takens : (came : Came) (c : Code) (p : ℕ) → map taken_in (spots_in came c p) ≡ takens c
-spots_takens came done p = refl
-spots_takens came (one i rest) p = ap (λ ts. taken_by i ∷ ts) (spots_takens (onward came i p) rest (p + 1))
-spots_takens came (block kind inner rest) p =
+spots_doings : (came : Came) (c : Code) (p : ℕ) → map doing_in (spots_in came c p) ≡ doings c
+spots_doings came done p = refl
+spots_doings came (one i rest) p = ap (λ ts. does_by i ∷ ts) (spots_doings (onward came i p) rest (p + 1))
+spots_doings came (block kind inner rest) p =
     let I = spots_in (through came (At p)) inner (p + 1) in
     let R = spots_in (through came (Join p)) rest (p + 1 + count inner) in
-    ap (λ ts. (holder came).taken ∷ ts) (map_both taken_in I R ∙ ap₂ (λ (a b : List Taken). a ++ b) (spots_takens (through came (At p)) inner (p + 1))
-    (spots_takens (through came (Join p)) rest (p + 1 + count inner)))
-spots_takens came (repeat kind inner rest) p =
+    ap (λ ts. doing_in (holder came) ∷ ts) (map_both doing_in I R ∙ ap₂ (λ (a b : List Doing). a ++ b) (spots_doings (through came (At p)) inner (p + 1))
+    (spots_doings (through came (Join p)) rest (p + 1 + count inner)))
+spots_doings came (repeat kind inner rest) p =
     let I = spots_in (through came (At p)) inner (p + 1) in
     let R = spots_in (through came (Join p)) rest (p + 1 + count inner) in
-    ap (λ ts. (holder came).taken ∷ ts) (map_both taken_in I R ∙ ap₂ (λ (a b : List Taken). a ++ b) (spots_takens (through came (At p)) inner (p + 1))
-    (spots_takens (through came (Join p)) rest (p + 1 + count inner)))
-spots_takens came (branch kind x y rest) p =
+    ap (λ ts. doing_in (holder came) ∷ ts) (map_both doing_in I R ∙ ap₂ (λ (a b : List Doing). a ++ b) (spots_doings (through came (At p)) inner (p + 1))
+    (spots_doings (through came (Join p)) rest (p + 1 + count inner)))
+spots_doings came (branch kind x y rest) p =
     let X = spots_in (through came (At p)) x (p + 1) in
     let Y = spots_in (through came (At p)) y (p + 1 + count x) in
     let R = spots_in (through came (Join p)) rest (p + 1 + count x + count y) in
-    ap (λ ts. (holder came).taken ∷ ts) (map_both taken_in X (Y ++ R) ∙ ap₂ (λ (a b : List Taken). a ++ b) (spots_takens (through came (At p)) x (p + 1))
-    (map_both taken_in Y R ∙ ap₂ (λ (a b : List Taken). a ++ b) (spots_takens (through came (At p)) y (p + 1 + count x))
-    (spots_takens (through came (Join p)) rest (p + 1 + count x + count y))))
+    ap (λ ts. doing_in (holder came) ∷ ts) (map_both doing_in X (Y ++ R) ∙ ap₂ (λ (a b : List Doing). a ++ b) (spots_doings (through came (At p)) x (p + 1))
+    (map_both doing_in Y R ∙ ap₂ (λ (a b : List Doing). a ++ b) (spots_doings (through came (At p)) y (p + 1 + count x))
+    (spots_doings (through came (Join p)) rest (p + 1 + count x + count y))))
 
-taken_map : (o : Option Spot) → taken_is o ≡ option_map taken_in o
-taken_map None = refl
-taken_map (Some s) = refl
+does_here : (o : Option Spot) (d : Doing) → option_map doing_in o ≡ Some d → (taken_is o ≡ Some d.0) × (touch_at o ≡ d.1)
+does_here None d e = absurd cc
+does_here (Some s) d e = let same : doing_in s ≡ d = cc in (ap (λ (z : Doing). Some z.0) same, ap (λ (z : Doing). z.1) same)
 
-pub taken_at_spot : (came : Came) (c : Code) (p : ℕ) (q : ℕ) (spots : List Spot) (t : Taken) → spots ≡ spots_in came c p → slice_get (takens c) q ≡ Some t
-    → taken_is (slice_get spots q) ≡ Some t
-taken_at_spot came c p q spots t is e =
-    taken_map (slice_get spots q) ∙ (sym (slice_get-map taken_in spots q) ∙ (ap (λ (ts : List Taken). slice_get ts q) (ap (map taken_in) is
-    ∙ spots_takens came c p) ∙ e))
+pub does_at_spot : (came : Came) (c : Code) (p : ℕ) (q : ℕ) (spots : List Spot) (d : Doing) → spots ≡ spots_in came c p → slice_get (doings c) q ≡ Some d
+    → (taken_is (slice_get spots q) ≡ Some d.0) × (touch_at (slice_get spots q) ≡ d.1)
+does_at_spot came c p q spots d is e =
+    does_here (slice_get spots q) d (sym (slice_get-map doing_in spots q) ∙ (ap (λ (ts : List Doing). slice_get ts q) (ap (map doing_in) is
+    ∙ spots_doings came c p) ∙ e))
 
 -- ---- locations
 
@@ -93,7 +92,20 @@ touched_in action.Fill = refl
 
 touched_by : (f : Form) → uses_in (touch_by f) ≡ rows.uses_by f
 touched_by (Plain a) = touched_in a
-touched_by _ = refl
+touched_by (CallOf f) = refl
+touched_by (CallBy k) = refl
+touched_by NoForm = refl
+
+-- whom an instruction calls
+plain_silent : (a : Action) → whom_in_touch (touch_in a) ≡ None
+plain_silent (action.Get k) = refl
+plain_silent _ = refl
+
+pub touch_whom : (f : Form) → whom_in_touch (touch_by f) ≡ whom_by f
+touch_whom (Plain a) = plain_silent a
+touch_whom (CallOf f) = refl
+touch_whom (CallBy k) = refl
+touch_whom NoForm = refl
 
 touched : (i : Instr) → uses_in (touch_of i) ≡ uses_of i
 touched i = touched_by (form_of i)
@@ -156,6 +168,7 @@ written_use (touch.Reads y) x e = absurd cc
 written_use (touch.Writes y) x e = record { found = writing y; there = (0, omega arith, refl); same = cc; so = refl }
 written_use (touch.Changes y) x e = record { found = changing y; there = (0, omega arith, refl); same = cc; so = refl }
 written_use touch.Loads x e = absurd cc
+written_use (touch.Calls w) x e = absurd cc
 written_use touch.Stores x e = record { found = changing Mem; there = (0, omega arith, refl); same = cc; so = refl }
 
 not_written : (u v : LocUse) → u ≡ v → v.writes ≡ true → u.writes ≡ false → ⊥
@@ -172,6 +185,7 @@ found_written (touch.Changes y) x u (inr a) same so = absurd a
 found_written touch.Loads x u (inl e) same so = absurd (not_written (reading Mem) u e so refl)
 found_written touch.Loads x u (inr (inl e)) same so = absurd (not_written (checking Size) u e so refl)
 found_written touch.Loads x u (inr (inr a)) same so = absurd a
+found_written (touch.Calls w) x u a same so = absurd a
 found_written touch.Stores x u (inl e) same so = ap Some (ap (λ (z : LocUse). z.loc) e ∙ same)
 found_written touch.Stores x u (inr (inl e)) same so = absurd (not_written (checking Size) u e so refl)
 found_written touch.Stores x u (inr (inr a)) same so = absurd a
@@ -191,6 +205,7 @@ asks_used (touch.Writes x) p j h = absurd h
 asks_used (touch.Changes x) p j h = (changing x, ((0, omega arith, refl), (refl, h)))
 asks_used touch.Loads p j (inl h) = (reading Mem, ((0, omega arith, refl), (refl, h)))
 asks_used touch.Loads p j (inr h) = (checking Size, ((1, omega arith, refl), (refl, h)))
+asks_used (touch.Calls w) p j h = absurd h
 asks_used touch.Stores p j (inl h) = (changing Mem, ((0, omega arith, refl), (refl, h)))
 asks_used touch.Stores p j (inr h) = (checking Size, ((1, omega arith, refl), (refl, h)))
 
@@ -211,6 +226,7 @@ among_asks (touch.Changes x) p u (inr a) h = absurd a
 among_asks touch.Loads p u (inl e) h = inl (need_same p (reading Mem) u e)
 among_asks touch.Loads p u (inr (inl e)) h = inr (need_same p (checking Size) u e)
 among_asks touch.Loads p u (inr (inr a)) h = absurd a
+among_asks (touch.Calls w) p u a h = absurd a
 among_asks touch.Stores p u (inl e) h = inl (need_same p (changing Mem) u e)
 among_asks touch.Stores p u (inr (inl e)) h = inr (need_same p (checking Size) u e)
 among_asks touch.Stores p u (inr (inr a)) h = absurd a

@@ -9,13 +9,16 @@ use Rattle.wasm_types.specs.declared.place.Loc.TheVariants as loc
 use Rattle.wasm_types.specs.declared.place.Node.{Node}
 use Rattle.wasm_types.specs.declared.place.Node.TheVariants as node
 use Rattle.wasm_types.specs.declared.place.Node.TheVariants.{Exit}
-use Rattle.wasm_types.specs.Actions.{Action, Get, Set, Tee, GetGlobal, SetGlobal, Read, Write, Pages, Grow, Copy, Fill, Form, Plain, form_of}
+use Rattle.wasm_types.specs.Actions.{Action, Get, Set, Tee, GetGlobal, SetGlobal, Read, Write, Pages, Grow, Copy, Fill, Form, Plain, CallOf, CallBy, form_of}
 use Rattle.wasm_types.specs.Code.{Code, done, one, block, repeat, branch, count}
 use Rattle.wasm_types.specs.Nodes.{At, Join}
+use Rattle.wasm_types.specs.Sites.{Head, DoHead}
 use Rattle.block_cfg.specs.Graph.{number}
 use Rattle.block_cfg.specs.Walk.{goes_on, target_of}
 use Rattle.flow_domain.specs.declared.loc_table.LocUse.{LocUse}
 use Rattle.flow_domain.specs.LocRows.{reading, checking, writing, changing}
+use Rattle.called_rows.specs.declared.instrs.Whom.{Whom}
+use Rattle.called_rows.specs.declared.instrs.Whom.TheVariants.{Own, Through}
 use Rattle.slice_closure.specs.declared.spot.Touch.{Touch}
 use Rattle.slice_closure.specs.declared.spot.Touch.TheVariants as touch
 use Rattle.slice_closure.specs.declared.spot.Taken.{Taken}
@@ -25,7 +28,7 @@ use Rattle.slice_closure.specs.declared.spot.Came.TheVariants.{Never, First, Aft
 use Rattle.slice_closure.specs.declared.spot.Spot.{Spot}
 use Rattle.slice_closure.specs.declared.walk.Trail.{Trail}
 use Rattle.slice_closure.specs.Items.{loc_number}
-use Rattle.slice_closure.specs.Takens.{taken_by}
+use Rattle.slice_closure.specs.Takens.{taken_by, taken_at}
 
 -- ---- locations
 
@@ -37,6 +40,7 @@ uses_in (touch.Writes x) = writing x ∷ []
 uses_in (touch.Changes x) = changing x ∷ []
 uses_in touch.Loads = reading loc.Mem ∷ checking loc.Size ∷ []
 uses_in touch.Stores = changing loc.Mem ∷ checking loc.Size ∷ []
+uses_in (touch.Calls w) = []
 
 -- the locations that it reads or checks, and that their numbers are below a bound
 abbrev pub asked_in : Touch → List Loc
@@ -69,10 +73,16 @@ touch_in Copy = touch.Stores
 touch_in Fill = touch.Stores
 touch_in _ = touch.Nothing
 
--- a call touches nothing
+-- what a call touches depends on whom it calls
 abbrev pub touch_by : Form → Touch
 touch_by (Plain a) = touch_in a
+touch_by (CallOf f) = touch.Calls (Own f)
+touch_by (CallBy k) = touch.Calls (Through k)
 touch_by _ = touch.Nothing
+
+abbrev pub whom_in_touch : Touch → Option Whom
+whom_in_touch (touch.Calls w) = Some w
+whom_in_touch _ = None
 
 abbrev pub touch_of : Instr → Touch
 touch_of op = touch_by (form_of op)
@@ -110,6 +120,29 @@ spots_in came (repeat kind inner rest) p =
     holder came ∷ (spots_in (through came (At p)) inner (p + 1) ++ spots_in (through came (Join p)) rest (p + 1 + count inner))
 spots_in came (branch kind x y rest) p =
     holder came ∷ (spots_in (through came (At p)) x (p + 1) ++ (spots_in (through came (At p)) y (p + 1 + count x) ++ spots_in (through came (Join p)) rest (p + 1 + count x + count y)))
+
+-- ---- what instructions take and touch, and the same of what stands at a position
+
+abbrev pub Doing : Type 0
+Doing = Taken × Touch
+
+abbrev pub does_by : Instr → Doing
+does_by op = (taken_by op, touch_of op)
+
+abbrev pub touched_at : Head → Touch
+touched_at (DoHead op) = touch_of op
+touched_at _ = touch.Nothing
+
+abbrev pub does_at : Head → Doing
+does_at h = (taken_at h, touched_at h)
+
+-- by position
+abbrev pub doings : Code → List Doing
+doings done = []
+doings (one op rest) = does_by op ∷ doings rest
+doings (block kind inner rest) = (taken.All, touch.Nothing) ∷ (doings inner ++ doings rest)
+doings (repeat kind inner rest) = (taken.All, touch.Nothing) ∷ (doings inner ++ doings rest)
+doings (branch kind x y rest) = (taken.All, touch.Nothing) ∷ (doings x ++ (doings y ++ doings rest))
 
 -- ---- ways: to a point, and from one that leads there
 

@@ -4,8 +4,11 @@ use Rattle.wasm_types.specs.declared.module.Pos.{Pos}
 use Rattle.wasm_types.specs.declared.module.Module.{Module}
 use Rattle.wasm_types.specs.Code.{code_of}
 use Rattle.wasm_types.specs.Actions.{callees}
-use Rattle.stack_names.specs.Named.{AreNames, is_live_in}
-use Rattle.stack_repair.specs.Law.{HasTypes}
+use Rattle.stack_names.specs.Named.{is_live_in}
+use Rattle.stack_names.specs.Ends.{HasValues}
+use Rattle.stack_repair.specs.Law.{HasTypes, ValidHasHeights}
+use Rattle.wasm_types.specs.Subset.{IsSealed}
+use Rattle.called_rows.specs.Right.{IsCalled}
 use Rattle.control_deps.specs.Nest.{IsNestOf}
 use Rattle.control_deps.specs.Nearest.{AreNearest}
 use Rattle.flow_domain.specs.Heights.{Shaped}
@@ -15,7 +18,10 @@ use Rattle.slice_closure.specs.declared.spot.Came.TheVariants.{First}
 use Rattle.slice_closure.specs.Flow.{AreRows, spots_in, ways_of}
 
 pub record AreMade (m : Module) (f : ℕ) (at : Pos) (t : Tables) : Type 0 where
-  pub names : AreNames m f (nat_eq at.0) t.names.now
+  pub sealed : IsSealed m
+  pub heights : ValidHasHeights
+  pub called : IsCalled m t.called
+  pub names : HasValues m f (nat_eq at.0) t.names.now
   pub same : names.body ≡ t.body.now
   pub shaped : Shaped (callees m) (HasTypes (context_of m names.kind t.body.now)) (length names.kind.results ∷ []) (length names.kind.results)
       (watched_code (nat_eq at.0) t.body.now) 0

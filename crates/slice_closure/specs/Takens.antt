@@ -1,8 +1,7 @@
 -- Which of its operands a kept instruction takes: those that it doesn't carry to another place.
-use Rattle.std.specs.Prelude.{◌-◌, List, [], ◌∷◌, ◌++◌, Option, Some, None, drop, length}
+use Rattle.std.specs.Prelude.{◌-◌, List, [], Option, Some, None, drop, length}
 use Rattle.wasm_types.specs.declared.instr.Instr.{Instr}
 use Rattle.wasm_types.specs.declared.instr.Instr as instr
-use Rattle.wasm_types.specs.Code.{Code, done, one, block, repeat, branch}
 use Rattle.wasm_types.specs.Sites.{Head, BrHead, BrIfHead, BrTableHead, ReturnHead}
 use Rattle.stack_names.specs.declared.place.Place.{Place}
 use Rattle.slice_closure.specs.declared.spot.Taken.{Taken}
@@ -22,14 +21,6 @@ taken_at (BrIfHead l) = Last
 taken_at (BrTableHead labels other) = Last
 taken_at (ReturnHead l) = Nothing
 taken_at _ = All
-
--- by position
-abbrev pub takens : Code → List Taken
-takens done = []
-takens (one op rest) = taken_by op ∷ takens rest
-takens (block kind inner rest) = All ∷ (takens inner ++ takens rest)
-takens (repeat kind inner rest) = All ∷ (takens inner ++ takens rest)
-takens (branch kind x y rest) = All ∷ (takens x ++ (takens y ++ takens rest))
 
 -- of all operands, the deepest first, those that are taken
 abbrev pub of_taken : Option Taken → List Place → List Place

@@ -2,35 +2,37 @@
 
 ghost use Rattle.std.specs.Prelude.{◌≡◌, ◌↔◌, ◌⊎◌, ◌+◌, ◌*◌, ◌^◌, ◌<◌, ◌≤◌, ◌∷◌, [], ℕ, Bool, Some, IfOk, IsTrue, length, map, true};
 ghost use Rattle.std.specs.List.{All, Contains};
-ghost use Rattle.wasm_types.specs.declared.module.FuncType.{FuncType};
-ghost use Rattle.wasm_types.specs.declared.module.Body.{Body};
 ghost use Rattle.wasm_types.specs.declared.place.Node.{Node};
-ghost use Rattle.wasm_types.specs.Actions.{callees};
 ghost use Rattle.wasm_types.specs.Subset.{IsSealed};
 ghost use Rattle.block_cfg.specs.Points.{HasPoints};
 ghost use Rattle.slice_closure.specs.Made.{AreMade};
-ghost use Rattle.wasm_types.specs.Spaces.{HasBody, body_of, func_types, import_count, type_of_func};
+ghost use Rattle.wasm_types.specs.Spaces.{body_of, func_types, import_count};
 ghost use Rattle.worklist.specs.Search.{IsMarked};
 ghost use Rattle.sparse_reach.specs.Flags.{flags};
 ghost use Rattle.worklist.specs.Gains.{Gains};
 ghost use Rattle.worklist.specs.Reached.{Reached};
 ghost use Rattle.block_cfg.specs.Graph.{number};
-ghost use Rattle.stack_names.specs.Named.{AreNames, is_live_in};
-ghost use Rattle.flow_domain.specs.Kept.{Tells};
+ghost use Rattle.stack_names.specs.Named.{is_live_in};
+ghost use Rattle.stack_names.specs.Ends.{HasValues};
+ghost use Rattle.call_graph.specs.Graph.{IsCallGraph};
+ghost use Rattle.called_rows.specs.Right.{IsCalled};
 ghost use Rattle.flow_domain.specs.KeptSets.{holds};
-ghost use Rattle.flow_domain.specs.Sliced.{KeptAt};
+ghost use Rattle.flow_domain.specs.Summaries.{IsTableOf};
+ghost use Rattle.slice_closure.specs.Answer.{TellsKept, TellsMade};
 ghost use Rattle.slice_closure.specs.Items.{Numbered};
 ghost use Rattle.slice_closure.specs.Next as spec;
 
-use crate::flow::Flow;
+use crate::flow::{Flow, greater};
 use crate::items::{Item, Numbering};
 use crate::search::Closing;
 use crate::tables::Tables;
 use block_cfg::{law_bodies_have_points, point_of_number};
+use call_graph::CallGraph;
+use called_rows::{Called, TargetTable};
 use control_deps::{Deciders, Nest};
-use flow_domain::Kept;
+use flow_domain::{Kept, SummaryTable};
 use sparse_reach::{Marks, reach_few};
-use stack_names::{Names, names};
+use stack_names::{Names, value_names};
 use stack_repair::law_valid_has_heights;
 use std::alloc::Global;
 use wasm_types::{Body, NoMemory, Node, Pos, ValidModule};
@@ -68,7 +70,7 @@ fn first(alloc: Global, closing: &Closing, at: Pos) -> Result<Vec<usize>, NoMemo
     ensures { IfOk result (λ list. Gains (Numbered closing.now.numbering.nodes (spec.First closing.now.tables at)) [] list.items) }
 {
     let mut list = Vec::new(alloc);
-    closing.push(Item::Keeps(Node::At(at)), &mut list)?;
+    closing.push_value(Node::At(at), &mut list)?;
     closing.push_makers(closing.tables.names.operands(at), &mut list)?;
     Ok(list)
 }
@@ -76,7 +78,9 @@ fn first(alloc: Global, closing: &Closing, at: Pos) -> Result<Vec<usize>, NoMemo
 /// The nodes that the search for the kept set of a position meets.
 fn search(alloc: Global, closing: &Closing, at: Pos) -> Result<Kept, NoMemory>
     requires { number (Node.At at) < closing.now.numbering.nodes }
-    ensures { IfOk result (λ kept. (n : Node) → holds kept n ≡ true ↔ Reached (spec.First closing.now.tables at) (spec.Next closing.now.tables) (Item.Keeps n)) }
+    ensures kept { IfOk result (λ kept. (n : Node) → holds kept n ≡ true ↔ Reached (spec.First closing.now.tables at) (spec.Next closing.now.tables) (Item.Keeps n)) }
+    ensures made { IfOk result (λ _. (makers : Node → Bool) × ((n : Node) → makers n ≡ true ↔ Reached (spec.First closing.now.tables at) (spec.Next closing.now.tables)
+        (spec.value_item closing.now.tables n))) }
 {
     let list = first(alloc, closing, at)?;
     let met = reach_few(alloc, closing, &list)?;
@@ -94,10 +98,14 @@ fn close_tables(
 ) -> Result<Kept, NoMemory>
     requires made { AreMade m.now func at tables }
     requires points { HasPoints tables.body.now }
-    ensures { IfOk result (λ kept. (t : FuncType) (b : Body) → type_of_func m.now func ≡ Some t → HasBody m.now func b → Tells (holds kept) (KeptAt (callees m.now) t b at.0)) }
+    ensures kept { IfOk result (λ kept. TellsKept m.now tables.entry.called.rows.now func at.0 kept) }
+    ensures made { IfOk result (λ _. TellsMade m.now tables.entry.called.rows.now func at.0) }
 {
     let nodes = 2 * tables.body.count() as usize + 1;
-    let locs = tables.flow.locs_bound();
+    let locs = greater(
+        tables.flow.locs_bound(),
+        2 * tables.called.globals() as usize + 3,
+    );
     let closing = Closing {
         tables,
         numbering: Numbering { nodes, locs },
@@ -129,12 +137,15 @@ fn close_live(
     func: u32,
     names: &Names,
     at: Pos,
+    called: Called,
 ) -> Result<Kept, NoMemory>
     requires imported { import_count m.now ≤ func }
     requires own { func < length (func_types m.now) }
-    requires names { (w : ℕ → Bool) → AreNames m.now func w names.now }
+    requires names { (w : ℕ → Bool) → HasValues m.now func w names.now }
+    requires called { IsCalled m.now called }
     requires live { is_live_in names.now.positions at.0 ≡ true }
-    ensures { IfOk result (λ kept. (t : FuncType) (b : Body) → type_of_func m.now func ≡ Some t → HasBody m.now func b → Tells (holds kept) (KeptAt (callees m.now) t b at.0)) }
+    ensures kept { IfOk result (λ kept. TellsKept m.now called.entry.rows.now func at.0 kept) }
+    ensures made { IfOk result (λ _. TellsMade m.now called.entry.rows.now func at.0) }
 {
     law_valid_has_heights();
     let body = own_body(m, func);
@@ -147,40 +158,58 @@ fn close_live(
         names,
         nest: &nest,
         deciders: &deciders,
+        called,
     };
     let kept = close_tables(alloc, m, func, tables, at)?;
     Ok(kept)
 }
 
-/// The kept set of a position of an own function (docs/ANALYSES.md, "The kept set"), by the names of its body: exactly what the rules keep where calls do
-/// nothing, and no node where the position is not live. It takes time by what is met, and memory by the body and by what is met. It fails only where memory is
-/// refused.
+/// The kept set of a position of an own function (docs/ANALYSES.md, "The kept set"), by the names of its body, the calls of the module and the rows of its
+/// functions: exactly what the rules keep by these rows, and no node where the position is not live. It takes time by what is met, and memory by the body, the
+/// functions in the table and what is met. It fails only where memory is refused.
 pub fn close_named(
     alloc: Global,
     m: &ValidModule,
     func: u32,
     names: &Names,
     at: Pos,
+    graph: &CallGraph,
+    table: &SummaryTable,
 ) -> Result<Kept, NoMemory>
     requires imported { import_count m.now ≤ func }
     requires own { func < length (func_types m.now) }
-    requires names { (w : ℕ → Bool) → AreNames m.now func w names.now }
-    ensures { IfOk result (λ kept. (t : FuncType) (b : Body) → type_of_func m.now func ≡ Some t → HasBody m.now func b → Tells (holds kept) (KeptAt (callees m.now) t b at.0)) }
+    requires names { (w : ℕ → Bool) → HasValues m.now func w names.now }
+    requires graph { IsCallGraph m.now graph.now }
+    requires table { IsTableOf m.now table.now }
+    ensures kept { IfOk result (λ kept. TellsKept m.now table.now func at.0 kept) }
+    ensures made { IfOk result (λ _. TellsMade m.now table.now func at.0) }
 {
     if !names.live(at) {
         return Ok(Kept::new(alloc));
     }
-    let kept = close_live(alloc, m, func, names, at)?;
+    let targets = TargetTable::of(alloc, m, graph, table)?;
+    let called = Called::new(graph, table, &targets);
+    let kept = close_live(alloc, m, func, names, at, called)?;
     Ok(kept)
 }
 
 /// The kept set of a position of an own function, as `close_named` answers it.
-pub fn close(alloc: Global, m: &ValidModule, func: u32, at: Pos) -> Result<Kept, NoMemory>
+pub fn close(
+    alloc: Global,
+    m: &ValidModule,
+    func: u32,
+    at: Pos,
+    graph: &CallGraph,
+    table: &SummaryTable,
+) -> Result<Kept, NoMemory>
     requires imported { import_count m.now ≤ func }
     requires own { func < length (func_types m.now) }
-    ensures { IfOk result (λ kept. (t : FuncType) (b : Body) → type_of_func m.now func ≡ Some t → HasBody m.now func b → Tells (holds kept) (KeptAt (callees m.now) t b at.0)) }
+    requires graph { IsCallGraph m.now graph.now }
+    requires table { IsTableOf m.now table.now }
+    ensures kept { IfOk result (λ kept. TellsKept m.now table.now func at.0 kept) }
+    ensures made { IfOk result (λ _. TellsMade m.now table.now func at.0) }
 {
-    let names = names(alloc, m, func)?;
-    let kept = close_named(alloc, m, func, &names, at)?;
+    let names = value_names(alloc, m, func)?;
+    let kept = close_named(alloc, m, func, &names, at, graph, table)?;
     Ok(kept)
 }

@@ -12,7 +12,8 @@ ghost use Rattle.slice_closure.specs.Flow as spec;
 ghost use Rattle.slice_closure.specs.declared.spot.Came.TheVariants as Came;
 
 use crate::items::loc_number;
-use crate::spot::{Came, Spot, Taken, Touch};
+use crate::packed::Packed;
+use crate::spot::{Came, Taken, Touch};
 use crate::walk::{Trail, walk_code};
 use block_cfg::point_number;
 use std::alloc::Global;
@@ -21,7 +22,7 @@ use wasm_types::{Body, NoMemory, Point, Pos};
 /// The positions of a body, and by the number of each point those that lead to it by branches and ends.
 #[derive(Drop)]
 pub(crate) struct Flow {
-    pub(crate) spots: Vec<Spot>,
+    pub(crate) spots: Vec<Packed>,
     pub(crate) before: Vec<Vec<Point>>,
 }
 
@@ -33,11 +34,8 @@ fn walk_body(alloc: Global, body: &Body) -> Result<Trail, NoMemory>
 {
     let mut labels = Vec::new(alloc);
     labels.push(Point::Exit).map_err(|_| NoMemory)?;
-    let mut trail = Trail {
-        spots: Vec::new(alloc),
-        ways: Vec::new(alloc),
-    };
     let code = body.code.as_slice();
+    let mut trail = Trail::with_capacity(alloc, code.len())?;
     let end = walk_code(&mut trail, &mut labels, code, Came::First)?;
     trail.lead(end, Point::Exit)?;
     Ok(trail)
@@ -96,7 +94,7 @@ impl Flow {
             return Came::Never;
         };
         match self.spots.get(pos.0 as usize) {
-            Some(spot) => spot.came,
+            Some(spot) => spot.came(),
             None => Came::Never,
         }
     }
@@ -116,7 +114,7 @@ impl Flow {
         ensures { result ≡ spec.touch_at (slice_get self.now.spots.items pos.0) }
     {
         match self.spots.get(pos.0 as usize) {
-            Some(spot) => spot.touch,
+            Some(spot) => spot.touch(),
             None => Touch::Nothing,
         }
     }
@@ -126,7 +124,7 @@ impl Flow {
         ensures { result ≡ spec.taken_is (slice_get self.now.spots.items pos.0) }
     {
         match self.spots.get(pos.0 as usize) {
-            Some(spot) => Some(spot.taken),
+            Some(spot) => Some(spot.taken()),
             None => None,
         }
     }
@@ -138,14 +136,14 @@ impl Flow {
     {
         let mut bound = 0;
         for spot in &self.spots {
-            bound = greater(bound, touch_bound(spot.touch));
+            bound = greater(bound, touch_bound(spot.touch()));
         }
         bound
     }
 }
 
 /// The greater number.
-fn greater(first: usize, second: usize) -> usize
+pub(crate) fn greater(first: usize, second: usize) -> usize
     ensures { result ≡ max first second }
 {
     if first < second { second } else { first }
@@ -163,5 +161,6 @@ fn touch_bound(touch: Touch) -> usize
         Touch::Changes(loc) => loc_number(loc) + 1,
         Touch::Loads => 2,
         Touch::Stores => 2,
+        Touch::Calls(_) => 0,
     }
 }

@@ -6,10 +6,16 @@ ghost use Rattle.slice_closure.specs.Items as spec;
 use block_cfg::{point_number, point_of_number};
 use wasm_types::{Loc, Node};
 
-/// That a node is kept, or that a location is needed at a point: what is written to it before is kept.
+/// What is kept of a body.
 #[derive(Clone, Copy, Drop)]
 pub(crate) enum Item {
+    /// That a node is kept, and with it its value where it calls nothing.
     Keeps(Node),
+    /// The value of a call.
+    Value(Node),
+    /// What a call writes to a location.
+    Written(Loc, Node),
+    /// A location at a point: what is written to it before is kept.
     Needs(Loc, Node),
 }
 
@@ -62,9 +68,9 @@ pub(crate) struct Numbering {
 impl Numbering {
     /// How many items there may be.
     pub(crate) fn count(&self) -> usize
-        ensures { result ≡ (self.now.locs + 1) * self.now.nodes }
+        ensures { result ≡ (2 * self.now.locs + 2) * self.now.nodes }
     {
-        (self.locs + 1) * self.nodes
+        (2 * self.locs + 2) * self.nodes
     }
 
     /// The number of an item.
@@ -74,22 +80,31 @@ impl Numbering {
     {
         match item {
             Item::Keeps(node) => point_number(node),
-            Item::Needs(loc, node) => (loc_number(loc) + 1) * self.nodes + point_number(node),
+            Item::Value(node) => self.nodes + point_number(node),
+            Item::Written(loc, node) => (2 * loc_number(loc) + 2) * self.nodes + point_number(node),
+            Item::Needs(loc, node) => (2 * loc_number(loc) + 3) * self.nodes + point_number(node),
         }
     }
 
     /// The item of a number.
     pub(crate) fn item(&self, index: usize) -> Item
-        requires { index < (self.now.locs + 1) * self.now.nodes }
+        requires { index < (2 * self.now.locs + 2) * self.now.nodes }
         ensures number { spec.item_number self.now.nodes result ≡ index }
         ensures item { spec.IsItem self.now.nodes self.now.locs result }
     {
         let node = point_of_number(index % self.nodes);
-        let row = index / self.nodes;
-        if row == 0 {
-            Item::Keeps(node)
+        let kind = index / self.nodes;
+        if kind == 0 {
+            return Item::Keeps(node);
+        }
+        if kind == 1 {
+            return Item::Value(node);
+        }
+        let loc = loc_of_number((kind - 2) / 2);
+        if kind % 2 == 0 {
+            Item::Written(loc, node)
         } else {
-            Item::Needs(loc_of_number(row - 1), node)
+            Item::Needs(loc, node)
         }
     }
 }

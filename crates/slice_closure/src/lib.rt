@@ -4,6 +4,7 @@
 mod closure;
 mod flow;
 mod items;
+mod packed;
 mod search;
 mod spot;
 mod tables;

@@ -1,6 +1,6 @@
 //! The search for a kept set.
 
-ghost use Rattle.std.specs.Prelude.{◌≡◌, ◌+◌, ◌*◌, ◌<◌, ◌≤◌, ◌↔◌, ◌⊎◌, ℕ, IfOk, IsTrue, Some, length};
+ghost use Rattle.std.specs.Prelude.{◌≡◌, ◌+◌, ◌*◌, ◌<◌, ◌≤◌, ◌↔◌, ◌⊎◌, ℕ, IfOk, IsTrue, None, Some, length};
 ghost use Rattle.std.specs.List.{All, Contains};
 ghost use Rattle.worklist.specs.Gains.{Gains};
 ghost use Rattle.worklist.specs.Packed.{PackedEdge};
@@ -11,6 +11,9 @@ ghost use Rattle.wasm_types.specs.declared.module.Pos.{Pos};
 ghost use Rattle.wasm_types.specs.Reaching.{Writes};
 ghost use Rattle.wasm_types.specs.declared.place.Node.{Node};
 ghost use Rattle.wasm_types.specs.declared.place.Loc.TheVariants.{Mem, Size};
+ghost use Rattle.flow_domain.specs.Rows.{Done, Final, Ret};
+ghost use Rattle.called_rows.specs.Called.{globals_in};
+ghost use Rattle.called_rows.specs.Whom.{output_of};
 ghost use Rattle.slice_closure.specs.Flow.{touch_at, ways_to};
 ghost use Rattle.slice_closure.specs.declared.items.Item.{Item};
 ghost use Rattle.slice_closure.specs.Items.{IsItem, Numbered, item_number, loc_number};
@@ -20,6 +23,7 @@ ghost use Rattle.slice_closure.specs.NextLaws.{next_stays};
 use crate::items::{Item, Numbering};
 use crate::spot::{Came, Taken, Touch};
 use crate::tables::Tables;
+use called_rows::{Made, Whom};
 use stack_names::Place;
 use wasm_types::{Loc, NoMemory, Node, Point, Pos};
 use worklist::Graph;
@@ -43,6 +47,38 @@ impl Closing<'_> {
         Ok(())
     }
 
+    /// Whom a node calls.
+    fn whom(&self, node: Node) -> Option<Whom>
+        ensures { result ≡ spec.whom_in self.now.tables node }
+    {
+        match node {
+            Node::At(pos) => self.tables.flow.touch(pos).whom(),
+            Node::Join(_) => None,
+            Node::Exit => None,
+        }
+    }
+
+    /// That the value of a node is needed.
+    fn value(&self, node: Node) -> Item
+        requires { number node < self.now.numbering.nodes }
+        ensures value { result ≡ spec.value_item self.now.tables node }
+        ensures item { IsItem self.now.numbering.nodes self.now.numbering.locs result }
+    {
+        match self.whom(node) {
+            Some(_) => Item::Value(node),
+            None => Item::Keeps(node),
+        }
+    }
+
+    pub(crate) fn push_value(&self, node: Node, next: &mut Vec<usize>) -> Result<(), NoMemory>
+        requires { number node < self.now.numbering.nodes }
+        ensures { IfOk result (λ _. Gains (Numbered self.now.numbering.nodes (λ j. j ≡ spec.value_item self.now.tables node)) next.old.items next.new.items) }
+    {
+        let item = self.value(node);
+        self.push(item, next)?;
+        Ok(())
+    }
+
     /// What makes the values in these places.
     pub(crate) fn push_makers(
         &self,
@@ -50,20 +86,20 @@ impl Closing<'_> {
         next: &mut Vec<usize>,
     ) -> Result<(), NoMemory>
         requires { All (λ place. number place.maker < self.now.numbering.nodes) places.now }
-        ensures { IfOk result (λ _. Gains (Numbered self.now.numbering.nodes (spec.FromEach places.now spec.Maker)) next.old.items next.new.items) }
+        ensures { IfOk result (λ _. Gains (Numbered self.now.numbering.nodes (spec.FromEach places.now (spec.Maker self.now.tables))) next.old.items next.new.items) }
     {
         for place in places {
-            self.push(Item::Keeps(place.maker), next)?;
+            self.push_value(place.maker, next)?;
         }
         Ok(())
     }
 
     fn push_nodes(&self, nodes: &[Node], next: &mut Vec<usize>) -> Result<(), NoMemory>
         requires { All (λ node. number node < self.now.numbering.nodes) nodes.now }
-        ensures { IfOk result (λ _. Gains (Numbered self.now.numbering.nodes (spec.FromEach nodes.now spec.Joins)) next.old.items next.new.items) }
+        ensures { IfOk result (λ _. Gains (Numbered self.now.numbering.nodes (spec.FromEach nodes.now (spec.Joins self.now.tables))) next.old.items next.new.items) }
     {
         for node in nodes {
-            self.push(Item::Keeps(*node), next)?;
+            self.push_value(*node, next)?;
         }
         Ok(())
     }
@@ -93,6 +129,7 @@ impl Closing<'_> {
                 self.push_memory(point, next)?;
                 Ok(())
             }
+            Touch::Calls(_) => Ok(()),
         }
     }
 
@@ -121,10 +158,133 @@ impl Closing<'_> {
 
     /// What makes the operands that a position takes.
     fn push_operands(&self, pos: Pos, next: &mut Vec<usize>) -> Result<(), NoMemory>
-        ensures { IfOk result (λ _. Gains (Numbered self.now.numbering.nodes (spec.FromEach (spec.taken_places self.now.tables pos.0) spec.Maker)) next.old.items next.new.items) }
+        ensures { IfOk result (λ _. Gains (Numbered self.now.numbering.nodes (spec.FromEach (spec.taken_places self.now.tables pos.0) (spec.Maker self.now.tables))) next.old.items next.new.items) }
     {
         self.push_makers(self.taken_places(pos), next)?;
         Ok(())
+    }
+
+    /// An operand of a call, the deepest being 0, where an output of the call depends on it.
+    fn push_argument(
+        &self,
+        places: &[Place],
+        made: Made,
+        whom: Whom,
+        index: usize,
+        next: &mut Vec<usize>,
+    ) -> Result<(), NoMemory>
+        requires places { All (λ place. number place.maker < self.now.numbering.nodes) places.now }
+        requires index { index < length places.now }
+        ensures { IfOk result (λ _. Gains (Numbered self.now.numbering.nodes (spec.ArgumentAt self.now.tables places.now (output_of made) whom index))
+            next.old.items next.new.items) }
+    {
+        if self.tables.called.takes(whom, made, places.len(), index) {
+            let place = places[index];
+            self.push_value(place.maker, next)?;
+        }
+        Ok(())
+    }
+
+    fn push_arguments(
+        &self,
+        places: &[Place],
+        made: Made,
+        whom: Whom,
+        next: &mut Vec<usize>,
+    ) -> Result<(), NoMemory>
+        requires { All (λ place. number place.maker < self.now.numbering.nodes) places.now }
+        ensures { IfOk result (λ _. Gains (Numbered self.now.numbering.nodes (spec.FromBelow (length places.now) (spec.ArgumentAt self.now.tables places.now
+            (output_of made) whom))) next.old.items next.new.items) }
+    {
+        for index in 0..places.len() {
+            self.push_argument(places, made, whom, index, next)?;
+        }
+        Ok(())
+    }
+
+    /// The location of a number at a call, where an output of the call depends on it.
+    fn push_input(
+        &self,
+        pos: Pos,
+        made: Made,
+        whom: Whom,
+        index: usize,
+        next: &mut Vec<usize>,
+    ) -> Result<(), NoMemory>
+        requires node { number (At pos.0) < self.now.numbering.nodes }
+        requires index { index < globals_in self.now.tables.called + 3 }
+        ensures { IfOk result (λ _. Gains (Numbered self.now.numbering.nodes (spec.InputAt self.now.tables pos.0 (output_of made) whom index))
+            next.old.items next.new.items) }
+    {
+        let loc = self.tables.called.loc(index);
+        if self.tables.called.has(whom, made, loc) {
+            self.push(Item::Needs(loc, Node::At(pos)), next)?;
+        }
+        Ok(())
+    }
+
+    fn push_inputs(
+        &self,
+        pos: Pos,
+        made: Made,
+        whom: Whom,
+        next: &mut Vec<usize>,
+    ) -> Result<(), NoMemory>
+        requires { number (At pos.0) < self.now.numbering.nodes }
+        ensures { IfOk result (λ _. Gains (Numbered self.now.numbering.nodes (spec.FromBelow (globals_in self.now.tables.called + 3)
+            (spec.InputAt self.now.tables pos.0 (output_of made) whom))) next.old.items next.new.items) }
+    {
+        for index in 0..self.tables.called.globals() as usize + 3 {
+            self.push_input(pos, made, whom, index, next)?;
+        }
+        Ok(())
+    }
+
+    /// What an output of a call depends on.
+    fn push_row(
+        &self,
+        pos: Pos,
+        made: Made,
+        whom: Whom,
+        next: &mut Vec<usize>,
+    ) -> Result<(), NoMemory>
+        requires { number (At pos.0) < self.now.numbering.nodes }
+        ensures { IfOk result (λ _. Gains (Numbered self.now.numbering.nodes (spec.ByRow self.now.tables pos.0 (output_of made) whom))
+            next.old.items next.new.items) }
+    {
+        self.push_arguments(self.tables.names.operands(pos), made, whom, next)?;
+        self.push_inputs(pos, made, whom, next)?;
+        Ok(())
+    }
+
+    /// What an output of a position depends on, where it is a call.
+    fn push_output_at(&self, pos: Pos, made: Made, next: &mut Vec<usize>) -> Result<(), NoMemory>
+        requires { number (At pos.0) < self.now.numbering.nodes }
+        ensures { IfOk result (λ _. Gains (Numbered self.now.numbering.nodes (spec.ForOutput self.now.tables (output_of made) (Node.At pos)
+            (spec.whom_in self.now.tables (Node.At pos)))) next.old.items next.new.items) }
+    {
+        match self.whom(Node::At(pos)) {
+            Some(whom) => {
+                self.push_row(pos, made, whom, next)?;
+                Ok(())
+            }
+            None => Ok(()),
+        }
+    }
+
+    fn push_output(&self, node: Node, made: Made, next: &mut Vec<usize>) -> Result<(), NoMemory>
+        requires { number node < self.now.numbering.nodes }
+        ensures { IfOk result (λ _. Gains (Numbered self.now.numbering.nodes (spec.ForOutput self.now.tables (output_of made) node
+            (spec.whom_in self.now.tables node))) next.old.items next.new.items) }
+    {
+        match node {
+            Node::At(pos) => {
+                self.push_output_at(pos, made, next)?;
+                Ok(())
+            }
+            Node::Join(_) => Ok(()),
+            Node::Exit => Ok(()),
+        }
     }
 
     /// What is directly around a position.
@@ -141,12 +301,39 @@ impl Closing<'_> {
         }
     }
 
+    /// What a kept position that calls nothing depends on.
+    fn push_plain(&self, pos: Pos, next: &mut Vec<usize>) -> Result<(), NoMemory>
+        requires { number (At pos.0) < self.now.numbering.nodes }
+        ensures { IfOk result (λ _. Gains (Numbered self.now.numbering.nodes (spec.Uses self.now.tables pos.0 None)) next.old.items next.new.items) }
+    {
+        self.push_operands(pos, next)?;
+        self.push_uses(pos, next)?;
+        Ok(())
+    }
+
+    /// What a kept position depends on: a call by the row for its completion.
+    fn push_needs(&self, pos: Pos, next: &mut Vec<usize>) -> Result<(), NoMemory>
+        requires { number (At pos.0) < self.now.numbering.nodes }
+        ensures { IfOk result (λ _. Gains (Numbered self.now.numbering.nodes (spec.Uses self.now.tables pos.0 (spec.whom_in self.now.tables (Node.At pos))))
+            next.old.items next.new.items) }
+    {
+        match self.whom(Node::At(pos)) {
+            Some(whom) => {
+                self.push_row(pos, Made::Done, whom, next)?;
+                Ok(())
+            }
+            None => {
+                self.push_plain(pos, next)?;
+                Ok(())
+            }
+        }
+    }
+
     fn push_at(&self, pos: Pos, next: &mut Vec<usize>) -> Result<(), NoMemory>
         requires { number (At pos.0) < self.now.numbering.nodes }
         ensures { IfOk result (λ _. Gains (Numbered self.now.numbering.nodes (spec.NextAt self.now.tables (Node.At pos))) next.old.items next.new.items) }
     {
-        self.push_operands(pos, next)?;
-        self.push_uses(pos, next)?;
+        self.push_needs(pos, next)?;
         self.push_holder(pos, next)?;
         Ok(())
     }
@@ -169,14 +356,36 @@ impl Closing<'_> {
         }
     }
 
+    fn writes_at(&self, pos: Pos, loc: Loc) -> bool
+        ensures { IsTrue result ↔ spec.Touched self.now.tables pos.0 loc }
+    {
+        match self.whom(Node::At(pos)) {
+            Some(whom) => self.tables.called.writes(whom, loc),
+            None => self.tables.flow.touch(pos).writes(loc),
+        }
+    }
+
     /// Whether a point writes a location.
     fn writes(&self, point: Point, loc: Loc) -> bool
         ensures { IsTrue result ↔ Writes (spec.Touched self.now.tables) loc point }
     {
         match point {
-            Point::At(pos) => self.tables.flow.touch(pos).writes(loc),
+            Point::At(pos) => self.writes_at(pos, loc),
             Point::Join(_) => false,
             Point::Exit => false,
+        }
+    }
+
+    /// That what a point writes to a location is needed.
+    fn written(&self, loc: Loc, point: Point) -> Item
+        requires node { number point < self.now.numbering.nodes }
+        requires loc { loc_number loc < self.now.numbering.locs }
+        ensures written { result ≡ spec.written_item self.now.tables loc point }
+        ensures item { IsItem self.now.numbering.nodes self.now.numbering.locs result }
+    {
+        match self.whom(point) {
+            Some(_) => Item::Written(loc, point),
+            None => Item::Keeps(point),
         }
     }
 
@@ -188,7 +397,7 @@ impl Closing<'_> {
         ensures item { IsItem self.now.numbering.nodes self.now.numbering.locs result }
     {
         if self.writes(point, loc) {
-            Item::Keeps(point)
+            self.written(loc, point)
         } else {
             Item::Needs(loc, point)
         }
@@ -274,6 +483,17 @@ impl Closing<'_> {
         Ok(())
     }
 
+    /// From an output of a call: the call is kept, and it depends on what the row has.
+    fn push_made(&self, node: Node, made: Made, next: &mut Vec<usize>) -> Result<(), NoMemory>
+        requires { number node < self.now.numbering.nodes }
+        ensures { IfOk result (λ _. Gains (Numbered self.now.numbering.nodes (λ j. (j ≡ Item.Keeps node) ⊎ spec.ForOutput self.now.tables (output_of made) node
+            (spec.whom_in self.now.tables node) j)) next.old.items next.new.items) }
+    {
+        self.push(Item::Keeps(node), next)?;
+        self.push_output(node, made, next)?;
+        Ok(())
+    }
+
     fn push_from(&self, item: Item, next: &mut Vec<usize>) -> Result<(), NoMemory>
         requires { IsItem self.now.numbering.nodes self.now.numbering.locs item }
         ensures { IfOk result (λ _. Gains (Numbered self.now.numbering.nodes (spec.Next self.now.tables item)) next.old.items next.new.items) }
@@ -281,6 +501,14 @@ impl Closing<'_> {
         match item {
             Item::Keeps(node) => {
                 self.push_kept(node, next)?;
+                Ok(())
+            }
+            Item::Value(node) => {
+                self.push_made(node, Made::Ret, next)?;
+                Ok(())
+            }
+            Item::Written(loc, node) => {
+                self.push_made(node, Made::Final(loc), next)?;
                 Ok(())
             }
             Item::Needs(loc, point) => {
@@ -292,7 +520,7 @@ impl Closing<'_> {
 }
 
 impl Graph for Closing<'_> {
-    ghost node_count = { λ closing. (closing.numbering.locs + 1) * closing.numbering.nodes };
+    ghost node_count = { λ closing. (2 * closing.numbering.locs + 2) * closing.numbering.nodes };
 
     ghost leads = { λ closing. PackedEdge (IsItem closing.numbering.nodes closing.numbering.locs) (item_number closing.numbering.nodes) (spec.Next closing.tables) };
 

@@ -4,6 +4,7 @@ ghost use Rattle.std.specs.Prelude.{◌≡◌, ◌↔◌, IsTrue, Some};
 ghost use Rattle.slice_closure.specs.Flow as spec;
 ghost use Rattle.slice_closure.specs.Takens.{taken_by};
 
+use called_rows::Whom;
 use wasm_types::{Instr, Loc, Point};
 
 /// How a walk comes to an instruction: not at all where it is dead, first of all, or after a point that leads to it.
@@ -14,7 +15,8 @@ pub(crate) enum Came {
     After(Point),
 }
 
-/// What an instruction does to locations. A change keeps a part of what was there; what loads and stores depends on the size of the memory, too.
+/// What an instruction does to locations. A change keeps a part of what was there; what loads and stores depends on the size of the memory, too; and what a call does
+/// depends on whom it calls.
 #[derive(Clone, Copy, Drop)]
 pub(crate) enum Touch {
     Nothing,
@@ -23,6 +25,7 @@ pub(crate) enum Touch {
     Changes(Loc),
     Loads,
     Stores,
+    Calls(Whom),
 }
 
 /// Which of its operands a kept instruction takes: all, the last alone, or nothing. A branch doesn't take the values that it carries.
@@ -63,6 +66,8 @@ pub(crate) fn touch_of(instr: &Instr) -> Touch
         Instr::Store(_, _) | Instr::MemoryCopy | Instr::MemoryFill => Touch::Stores,
         Instr::MemorySize => Touch::Reads(Loc::Size),
         Instr::MemoryGrow => Touch::Changes(Loc::Size),
+        Instr::Call(func) => Touch::Calls(Whom::Own(*func)),
+        Instr::CallIndirect(kind) => Touch::Calls(Whom::Through(*kind)),
         _ => Touch::Nothing,
     }
 }
@@ -84,6 +89,16 @@ fn is_same(first: Loc, second: Loc) -> bool
 }
 
 impl Touch {
+    /// Whom it calls.
+    pub(crate) fn whom(self) -> Option<Whom>
+        ensures { result ≡ spec.whom_in_touch self }
+    {
+        match self {
+            Touch::Calls(whom) => Some(whom),
+            _ => None,
+        }
+    }
+
     /// What it writes.
     fn written(self) -> Option<Loc>
         ensures { result ≡ spec.written_by self }

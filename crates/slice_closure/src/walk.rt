@@ -6,13 +6,15 @@ ghost use Rattle.block_cfg.specs.Walk.{goes_on, target_of};
 ghost use Rattle.slice_closure.specs.Takens.{taken_by};
 ghost use Rattle.slice_closure.specs.Flow as spec;
 
+use crate::packed::Packed;
 use crate::spot::{Came, Spot, Taken, Touch, taken_by, through, touch_of};
+use std::alloc::Global;
 use wasm_types::{Instr, NoMemory, Point, Pos};
 
 /// The positions that were passed, and ways to points from points that lead there: those of branches, and of the ends of blocks.
 #[derive(Drop)]
 pub(crate) struct Trail {
-    pub(crate) spots: Vec<Spot>,
+    pub(crate) spots: Vec<Packed>,
     pub(crate) ways: Vec<(Point, Point)>,
 }
 
@@ -41,6 +43,18 @@ fn goes_on(instr: &Instr) -> bool
 }
 
 impl Trail {
+    /// Nothing yet, with room asked for ahead for so many positions.
+    pub(crate) fn with_capacity(alloc: Global, positions: usize) -> Result<Trail, NoMemory>
+        ensures spots { IfOk result (λ trail. trail.spots.items ≡ []) }
+        ensures ways { IfOk result (λ trail. trail.ways.items ≡ []) }
+    {
+        let spots = Vec::with_capacity(alloc, positions).map_err(|_| NoMemory)?;
+        Ok(Trail {
+            spots,
+            ways: Vec::new(alloc),
+        })
+    }
+
     /// The position that comes next.
     fn here(&self) -> Pos
         requires { length self.now.spots.items < 2 ^ 32 }
@@ -54,7 +68,7 @@ impl Trail {
         ensures spots { IfOk result (λ _. self.new.spots.items ≡ self.old.spots.items ++ record { came = came; touch = touch; taken = taken } ∷ []) }
         ensures ways { IfOk result (λ _. self.new.ways.items ≡ self.old.ways.items) }
     {
-        let spot = Spot { came, touch, taken };
+        let spot = Packed::of(Spot { came, touch, taken });
         self.spots.push(spot).map_err(|_| NoMemory)?;
         Ok(())
     }

@@ -9,6 +9,9 @@ close_tables-requires-clause-made c =
     let b = c.own_body-body.result.now in
     let is = c.own_body-body.ensures.body in
     record {
+      sealed = c.own_body-body.ensures.sealed;
+      heights = c.law_valid_has_heights.ensures;
+      called = c.requires.called;
       names = a;
       same = names_same m c.args.func (nat_eq c.args.at.0) c.args.names.now a b is;
       shaped = names_shaped m c.args.func (nat_eq c.args.at.0) c.args.names.now a b is c.own_body-body.ensures.sealed c.law_valid_has_heights.ensures;

@@ -6,5 +6,5 @@ use Rattle.slice_closure.proofs.flow.walk_body.Goals as goal
 pub walk_code-requires : goal.walk_code-requires
 walk_code-requires c =
     let few : length (flatten (code_of c.args.body.now.code)) ≤ 200000 = c.requires.positions in
-    let none : length c.new.result.items ≡ 0 = ap length c.new.ensures.items in
+    let none : length c.in_ok-trail.trail.spots.items ≡ 0 = ap length c.in_ok-trail.ensures.spots in
     omega (arith, length-flatten (code_of c.args.body.now.code), ap (λ z. count (code_of z)) c.as_slice-code.ensures)

@@ -10,6 +10,17 @@ returns-in_ok-push_kept-in-Keeps c =
     subst (λ (i : Item). Gains (Numbered c.args.self.now.numbering.nodes (Next c.args.self.now.tables i)) c.args.next.now.items c.push_kept.new.next.items)
     (sym c.in-Keeps.is) c.in_ok-push_kept-in-Keeps.ensures
 
+pub returns-in_ok-push_made-in-Value : goal.returns-in_ok-push_made-in-Value
+returns-in_ok-push_made-in-Value c =
+    subst (λ (i : Item). Gains (Numbered c.args.self.now.numbering.nodes (Next c.args.self.now.tables i)) c.args.next.now.items c.push_made.new.next.items)
+    (sym c.in-Value.is) c.in_ok-push_made-in-Value.ensures
+
+pub returns-in_ok-push_made-in-Written : goal.returns-in_ok-push_made-in-Written
+returns-in_ok-push_made-in-Written c =
+    subst (λ (i : Item). Gains (Numbered c.args.self.now.numbering.nodes (Next c.args.self.now.tables i)) c.args.next.now.items
+    c.push_made-in-Written.new.next.items)
+    (sym c.in-Written.is) c.in_ok-push_made-in-Written.ensures
+
 pub returns-in_ok-push_before-in-Needs : goal.returns-in_ok-push_before-in-Needs
 returns-in_ok-push_before-in-Needs c =
     subst (λ (i : Item). Gains (Numbered c.args.self.now.numbering.nodes (Next c.args.self.now.tables i)) c.args.next.now.items c.push_before.new.next.items)

@@ -9,7 +9,7 @@ returns c =
     let N = c.args.self.now.numbering.nodes in
     let t = c.args.self.now.tables in
     let n = c.args.node in
-    let joined = FromEach (of_node t.names.now.joined n) Joins in
+    let joined = FromEach (of_node t.names.now.joined n) (Joins t) in
     let nodes = rw c.joined.ensures at c.in_ok-push_nodes.ensures in
     numbered_both N (NextAt t n) (λ j. joined j ⊎ NextDecider t n j) c.args.next.now.items c.push_near.new.next.items c.push_deciders.new.next.items
     c.in_ok-push_near.ensures

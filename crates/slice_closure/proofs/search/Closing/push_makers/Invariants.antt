@@ -5,4 +5,4 @@ use Rattle.slice_closure.specs.Next.{FromEach, Maker}
 use Rattle.slice_closure.proofs.search.Closing.push_makers.Given as goal
 
 abbrev pub invariant-loop-place : goal.invariant-loop-place
-invariant-loop-place l = Gains (Numbered l.self.numbering.nodes (FromEach (take l.place-index l.places) (Maker))) l.initial.next.items l.next.items
+invariant-loop-place l = Gains (Numbered l.self.numbering.nodes (FromEach (take l.place-index l.places) (Maker l.self.tables))) l.initial.next.items l.next.items

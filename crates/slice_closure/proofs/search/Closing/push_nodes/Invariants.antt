@@ -5,4 +5,4 @@ use Rattle.slice_closure.specs.Next.{FromEach, Joins}
 use Rattle.slice_closure.proofs.search.Closing.push_nodes.Given as goal
 
 abbrev pub invariant-loop-node : goal.invariant-loop-node
-invariant-loop-node l = Gains (Numbered l.self.numbering.nodes (FromEach (take l.node-index l.nodes) (Joins))) l.initial.next.items l.next.items
+invariant-loop-node l = Gains (Numbered l.self.numbering.nodes (FromEach (take l.node-index l.nodes) (Joins l.self.tables))) l.initial.next.items l.next.items
