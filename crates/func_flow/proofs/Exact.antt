@@ -136,6 +136,17 @@ checks_head cs (BrTableHead ls l) x r = absurd r
 checks_head cs (ReturnHead l) x r = absurd r
 checks_head cs UnreachableHead x r = absurd r
 
+pub writes_head : (cs : Callees) (h : Head) (x : Loc) → HeadWrites cs no_calls h x → (op : Instr) × ((h ≡ DoHead op) × TaskWrites no_calls (task_of cs op) x)
+writes_head cs (DoHead op) x w = (op, (refl, w))
+writes_head cs (BlockHead k) x w = absurd w
+writes_head cs (LoopHead k) x w = absurd w
+writes_head cs (IfHead k) x w = absurd w
+writes_head cs (BrHead l) x w = absurd w
+writes_head cs (BrIfHead l) x w = absurd w
+writes_head cs (BrTableHead ls l) x w = absurd w
+writes_head cs (ReturnHead l) x w = absurd w
+writes_head cs UnreachableHead x w = absurd w
+
 read_task : (T : Task) (x : Loc) → TaskReads T x → reads_of T x ≡ true
 read_task NoTask x r = absurd r
 read_task (Acts a) x r = r
@@ -401,7 +412,8 @@ module _ (B : Bounds) (R : CallRows) (S : Sites) (ends : List EndAt) (T : Node �
       (λ (u, (has, (on, same))). subst Means (sym same) (use_means out p s u led is has on))
       (subst (λ st. ByStep t p out st (whom_of st) j) (r.stands p s is ∙ ap Some e) h)
     where
-      none_picked : (out : Output) (k : ℕ) → IsPicked (picks_for out (Some (record { whom = None; makes = Nothing; traps = Nothing; decides = picks; stops = stops; arms = forks }))) k → ⊥
+      none_picked : (out : Output) (k : ℕ)
+          → IsPicked (picks_for out (Some (record { whom = None; makes = Nothing; traps = Nothing; decides = picks; stops = stops; arms = forks }))) k → ⊥
       none_picked Ret k h = h
       none_picked (Final x) k h = h
       none_picked Done k h = h
@@ -509,7 +521,8 @@ module _ (B : Bounds) (R : CallRows) (S : Sites) (ends : List EndAt) (T : Node �
       (λ h. subst (λ w. WritesAs t p w x) e h, λ h. subst (λ w. WritesAs t p w x) (sym e) h)
 
   -- of a position at which nothing is called
-  table_writes : (p : ℕ) (s : Site) → IsSite S p s → whom_of (slice_get t.steps.now p) ≡ None → ((x : Loc) → HeadWrites cs no_calls s.head x ↔ (writes_at B s.head x ≡ true))
+  table_writes : (p : ℕ) (s : Site) → IsSite S p s → whom_of (slice_get t.steps.now p) ≡ None
+      → ((x : Loc) → HeadWrites cs no_calls s.head x ↔ (writes_at B s.head x ≡ true))
       → (x : Loc) → WrittenAt t p x ↔ (writes_at B s.head x ≡ true)
   table_writes p s is e same x =
       let both = plain_writes p s is e x in (
@@ -700,7 +713,10 @@ module _ (B : Bounds) (R : CallRows) (S : Sites) (ends : List EndAt) (T : Node �
         let f = r.found p n shadow in
         let k = finds_met n f.last f.finds met in
         ⊎_elim
-        (λ near. ⊎_elim (λ e. step (item.Decided f.last) k (inl (record { 0 = p }, (e, refl)))) (λ e. step (item.Decided f.last) k (inr (inl (record { 0 = p }, (e, refl))))) near)
+        (λ near. ⊎_elim
+        (λ e. step (item.Decided f.last) k (inl (record { 0 = p }, (e, refl))))
+        (λ e. step (item.Decided f.last) k (inr (inl (record { 0 = p }, (e, refl)))))
+        near)
         (λ (on, arm). last_met f.last (At p) p on refl arm k)
         f.step
 

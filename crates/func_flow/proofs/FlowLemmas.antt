@@ -31,16 +31,19 @@ use Rattle.flow_domain.specs.Summaries.{IsKnown, TableRows, row_number, column_n
 use Rattle.flow_domain.specs.Touch.{IsExact}
 use Rattle.flow_domain.proofs.Summing.{among_some, among_is, column_below}
 use Rattle.func_flow.specs.declared.items.Item.TheVariants as item
+use Rattle.func_flow.specs.declared.runs.Runs.{Runs}
 use Rattle.func_flow.specs.declared.tables.Tables.{Tables}
 use Rattle.func_flow.specs.Items.{IsLoc, IsItem, item_number}
 use Rattle.func_flow.specs.Made.{AreMade}
 use Rattle.func_flow.specs.Met.{IsMet, IsFound}
 use Rattle.func_flow.specs.Next.{First, Next, Fits}
 use Rattle.func_flow.specs.Roots.{Adds, Begins}
+use Rattle.func_flow.specs.Runs.{AreRuns, AreQuiet, Short}
 use Rattle.func_flow.proofs.Exact.{needed_met}
 use Rattle.func_flow.proofs.Finished.{led_is}
 use Rattle.func_flow.proofs.MetLemmas.{entry_item}
 use Rattle.func_flow.proofs.Right.{right, fits}
+use Rattle.func_flow.proofs.RunLemmas.{order_of, run_reached}
 use Rattle.func_flow.proofs.Searching.{search_exact, reached_item}
 
 -- ---- where a body begins
@@ -51,6 +54,13 @@ first_within (one op rest) = omega arith
 first_within (block kind inner rest) = omega arith
 first_within (repeat kind inner rest) = omega arith
 first_within (branch kind x y rest) = omega arith
+
+pub first_low : (c : Code) → number (first_of 0 c Exit) ≤ 1
+first_low done = omega arith
+first_low (one op rest) = omega arith
+first_low (block kind inner rest) = omega arith
+first_low (repeat kind inner rest) = omega arith
+first_low (branch kind x y rest) = omega arith
 
 -- ---- own functions
 
@@ -96,18 +106,21 @@ input_column G P L loc.Host input ok = (2, refl)
 
 -- ---- bits
 
--- the bits that a search sets at the point are what it finds there
-pub met_found : (t : Tables) → Fits t → (roots : List Root) → Adds (Begins t.numbering (First t)) [] roots → (met : SparseRows)
+-- the bits that a search by runs sets at the point where a body begins are what the search finds there
+pub met_found : (t : Tables) (r : Runs) → Fits t → AreQuiet t → AreRuns t r → (roots : List Root) → Adds (Begins t.numbering (First t)) [] roots → (met : SparseRows)
     → ((x o : ℕ) → o < t.numbering.globals + 5
-    → HasBit met.words met.bits x o ↔ Reached (IsRootOf roots o) (PackedEdge (IsItem t.numbering) (item_number t.numbering) (Next t)) x)
-    → (node : Node) → number node < t.numbering.nodes → (globals params : ℕ) → t.numbering.globals ≡ globals → params ≤ t.numbering.locals
+    → HasBit met.words met.bits x o ↔ Reached (IsRootOf roots o) (PackedEdge (IsItem t.numbering) (item_number t.numbering) (Short t r)) x)
+    → (node : Node) → number node < t.numbering.nodes → number node ≤ 1 → (globals params : ℕ) → t.numbering.globals ≡ globals → params ≤ t.numbering.locals
     → (o : Output) (x : Loc) → IsMet met t.numbering node globals params (3 + globals + params) o x ↔ IsFound t node globals params o x
-met_found t ok roots adds met exact node within globals params same few o x = (to, from)
+met_found t r ok quiet runs roots adds met exact node within low globals params same few o x = (to, from)
   where
     told : (row column : ℕ) → row < 5 + globals → column_number globals params x ≡ Some column
         → HasBit met.words met.bits (item_number t.numbering (item.Needed x node)) row ↔ Reached (First t row) (Next t) (item.Needed x node)
-    told row column lt c = search_exact t ok t.numbering.some row roots adds met.words met.bits (λ y. exact y row (omega arith)) (item.Needed x node)
-        (entry_item t.numbering globals params node x column same few within c)
+    told row column lt c =
+        let short = search_exact t ok t.numbering.some row r (order_of t r runs) roots adds met.words met.bits (λ y. exact y row (omega arith)) (item.Needed x node)
+        (entry_item t.numbering globals params node x column same few within c) in
+        let all = run_reached t r quiet runs (First t row) x node low in
+        (λ bit. all.0 (short.0 bit), λ reached. short.1 (all.1 reached))
 
     to : IsMet met t.numbering node globals params (3 + globals + params) o x → IsFound t node globals params o x
     to (column, (lt, (row, (lt', (r, (c, bit)))))) = (row, (column, (r, (c, (told row column lt' c).0 bit))))

@@ -232,29 +232,40 @@ module _ (cs : Callees) (X : Instr → Type 0) where
   fine (Block m kind body rest) ctx k p names t h =
       let e = p + 1 + size body in (
         (λ o is. absurd cc),
-        fine_both (sites cs (block_label p (arity kind) e ∷ ctx) (Join p) body (p + 1) []) (sites cs ctx k rest e (named (arity kind) (Join p) names)) (fine body (block_label p (arity kind) e ∷ ctx) (Join p) (p + 1) [] (arity kind) h.0)
-            (fine rest ctx k e (named (arity kind) (Join p) names) t (long (arities ctx) t rest (arity kind + length names) (length (named (arity kind) (Join p) names))
+        fine_both (sites cs (block_label p (arity kind) e ∷ ctx) (Join p) body (p + 1) []) (sites cs ctx k rest e (named (arity kind) (Join p) names))
+            (fine body (block_label p (arity kind) e ∷ ctx) (Join p) (p + 1) [] (arity kind) h.0)
+            (fine rest ctx k e (named (arity kind) (Join p) names) t
+            (long (arities ctx) t rest (arity kind + length names) (length (named (arity kind) (Join p) names))
             (sym (length-named (arity kind) (Join p) names (arity_small kind))) h.1)),
       )
   fine (Loop m kind body rest) ctx k p names t h =
       let e = p + 1 + size body in (
         (λ o is. absurd cc),
-        fine_both (sites cs (loop_label p e ∷ ctx) (Join p) body (p + 1) []) (sites cs ctx k rest e (named (arity kind) (Join p) names)) (fine body (loop_label p e ∷ ctx) (Join p) (p + 1) [] (arity kind) h.0)
-            (fine rest ctx k e (named (arity kind) (Join p) names) t (long (arities ctx) t rest (arity kind + length names) (length (named (arity kind) (Join p) names))
+        fine_both (sites cs (loop_label p e ∷ ctx) (Join p) body (p + 1) []) (sites cs ctx k rest e (named (arity kind) (Join p) names))
+            (fine body (loop_label p e ∷ ctx) (Join p) (p + 1) [] (arity kind) h.0)
+            (fine rest ctx k e (named (arity kind) (Join p) names) t
+            (long (arities ctx) t rest (arity kind + length names) (length (named (arity kind) (Join p) names))
             (sym (length-named (arity kind) (Join p) names (arity_small kind))) h.1)),
       )
   fine (If m kind x y rest) ctx k p names t h =
       let f = p + 1 + size x in
       let e = p + 1 + size x + size y in (
         (λ o is. absurd cc),
-        fine_both (sites cs (block_label p (arity kind) e ∷ ctx) (Join p) x (p + 1) []) (sites cs (block_label p (arity kind) e ∷ ctx) (Join p) y f [] ++ sites cs ctx k rest e (named (arity kind) (Join p) (drop 1 names))) (fine x (block_label p (arity kind) e ∷ ctx) (Join p) (p + 1) [] (arity kind) h.1)
-            (fine_both (sites cs (block_label p (arity kind) e ∷ ctx) (Join p) y f []) (sites cs ctx k rest e (named (arity kind) (Join p) (drop 1 names))) (fine y (block_label p (arity kind) e ∷ ctx) (Join p) f [] (arity kind) h.2)
-            (fine rest ctx k e (named (arity kind) (Join p) (drop 1 names)) t (long (arities ctx) t rest (arity kind + (length names - 1)) (length (named (arity kind) (Join p) (drop 1 names)))
+        fine_both (sites cs (block_label p (arity kind) e ∷ ctx) (Join p) x (p + 1) [])
+            (sites cs (block_label p (arity kind) e ∷ ctx) (Join p) y f [] ++ sites cs ctx k rest e (named (arity kind) (Join p) (drop 1 names)))
+            (fine x (block_label p (arity kind) e ∷ ctx) (Join p) (p + 1) [] (arity kind) h.1)
+            (fine_both (sites cs (block_label p (arity kind) e ∷ ctx) (Join p) y f []) (sites cs ctx k rest e (named (arity kind) (Join p) (drop 1 names)))
+            (fine y (block_label p (arity kind) e ∷ ctx) (Join p) f [] (arity kind) h.2)
+            (fine rest ctx k e (named (arity kind) (Join p) (drop 1 names)) t
+            (long (arities ctx) t rest (arity kind + (length names - 1)) (length (named (arity kind) (Join p) (drop 1 names)))
             (sym (length-named (arity kind) (Join p) (drop 1 names) (arity_small kind) ∙ ap (λ n. arity kind + n) (length-drop 1 names))) h.3))),
       )
   fine (Br m l rest) ctx k p names t h = ((λ o is. absurd cc), fine_nones (size rest))
-  fine (BrIf m l rest) ctx k p names t h =
-      ((λ o is. absurd cc), fine rest ctx k (p + 1) (drop 1 names) t (long (arities ctx) t rest (length names - 1) (length (drop 1 names)) (sym (length-drop 1 names)) h.2))
+  fine (BrIf m l rest) ctx k p names t h = (
+    (λ o is. absurd cc),
+    fine rest ctx k (p + 1) (drop 1 names) t
+        (long (arities ctx) t rest (length names - 1) (length (drop 1 names)) (sym (length-drop 1 names)) h.2),
+  )
   fine (BrTable m labels other rest) ctx k p names t h = ((λ o is. absurd cc), fine_nones (size rest))
   fine (Return m rest) ctx k p names t h = ((λ o is. absurd cc), fine_nones (size rest))
   fine (Unreachable m rest) ctx k p names t h = ((λ o is. absurd cc), fine_nones (size rest))
@@ -306,8 +317,17 @@ func_is m f F e = go (type_of_func m f) refl (body_of m f) refl e
     go : (o : Option FuncType) → type_of_func m f ≡ o → (b : Option Body) → body_of m f ≡ b → func_from o b ≡ Some F → IsFunc m f F
     go None is b has e = absurd cc
     go (Some t) is None has e = absurd cc
-    go (Some t) is (Some b) has e = let same : record { params = length t.params; results = length t.results; locals = run_types b.locals; code = code_of b.code } ≡ F = cc in
-        record { kind = t; body = b; kind_is = is; body_is = has; params = ap (λ (z : Func). z.params) (sym same); results = ap (λ (z : Func). z.results) (sym same); code = ap (λ (z : Func). z.code) (sym same) }
+    go (Some t) is (Some b) has e =
+        let same : record { params = length t.params; results = length t.results; locals = run_types b.locals; code = code_of b.code } ≡ F = cc in
+        record {
+          kind = t;
+          body = b;
+          kind_is = is;
+          body_is = has;
+          params = ap (λ (z : Func). z.params) (sym same);
+          results = ap (λ (z : Func). z.results) (sym same);
+          code = ap (λ (z : Func). z.code) (sym same);
+        }
 
 -- heights and types of an own function
 pub func_shaped : (m : Module) → IsSealed m → ValidHasHeights → (f : ℕ) (F : Func) (h : IsFunc m f F)

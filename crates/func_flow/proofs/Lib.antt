@@ -8,6 +8,8 @@ pub mod Exact
 pub mod Known
 pub mod Forward
 pub mod RootLemmas
+pub mod Passing
+pub mod RunLemmas
 pub mod Searching
 pub mod Right
 pub mod Finished

@@ -124,10 +124,10 @@ same_pos p q e = let same : p ≡ q = cc in ap (λ (z : Pos). z.0) same
 
 -- ---- writers and points
 
-writes_is : (W : Table) (x : Loc) (n : Node) → Writes W x n → (p : ℕ) × ((n ≡ At p) × W p x)
+pub writes_is : (W : Table) (x : Loc) (n : Node) → Writes W x n → (p : ℕ) × ((n ≡ At p) × W p x)
 writes_is W x _ (writes_it {p} w) = (p, (refl, w))
 
-written_there : (W : Table) (x : Loc) (p : ℕ) → Writes W x (At p) → W p x
+pub written_there : (W : Table) (x : Loc) (p : ℕ) → Writes W x (At p) → W p x
 written_there W x p (writes_it w) = w
 
 pub writes_at : (W : Table) (x : Loc) (n : Node) (pos : Pos) (b : Bool) → n ≡ node.At pos → (b ≡ true) ↔ W pos.0 x → (b ≡ true) ↔ Writes W x n

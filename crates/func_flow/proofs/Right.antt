@@ -20,7 +20,7 @@ use Rattle.wasm_types.specs.Code.{code_of, count}
 use Rattle.wasm_types.specs.Marked.{Marked, size}
 use Rattle.wasm_types.specs.Spaces.{type_of_func, HasBody, globals_of}
 use Rattle.wasm_types.specs.Actions.{Action, Callee, Own, Through, Callees, callees, Plain, CallBy, form_of, task_of, called_of}
-use Rattle.wasm_types.specs.Locations.{is_outer, TaskReads, TaskChecks}
+use Rattle.wasm_types.specs.Locations.{is_outer, TaskReads, TaskChecks, TaskWrites}
 use Rattle.wasm_types.specs.Funcs.{unwatched}
 use Rattle.wasm_types.specs.Nodes.{At}
 use Rattle.wasm_types.specs.Labels.{body_label}
@@ -38,7 +38,7 @@ use Rattle.control_deps.proofs.InwardLemmas.{shadow_inward, shadow_join}
 use Rattle.flow_domain.specs.declared.loc_table.LocUse.{LocUse}
 use Rattle.flow_domain.specs.Bounds.{Bounds, bounds, Cover, called}
 use Rattle.flow_domain.specs.Heights.{Shaped}
-use Rattle.flow_domain.specs.LocTables.{HasRow, row_in}
+use Rattle.flow_domain.specs.LocTables.{HasRow, row_in, WritesIn}
 use Rattle.flow_domain.specs.Reach.{MayWrite}
 use Rattle.flow_domain.specs.Rows.{Output, Done, CallRows, RowOf, TargetRow}
 use Rattle.flow_domain.specs.Sliced.{context_of, watched_code, no_calls}
@@ -54,10 +54,11 @@ use Rattle.func_flow.specs.declared.targets.Targets.{Targets}
 use Rattle.func_flow.specs.declared.tables.Tables.{Tables}
 use Rattle.func_flow.specs.Items.{IsLoc, loc_number, index_of}
 use Rattle.func_flow.specs.Made.{AreMade}
-use Rattle.func_flow.specs.Next.{RowIn, ChecksBy, targets_in, RowOfTargets, TargetsWrite, TargetsTouch, IsMarkedAt, Fits}
-use Rattle.func_flow.specs.Steps.{form_step, head_step}
+use Rattle.func_flow.specs.Next.{RowIn, ChecksBy, targets_in, RowOfTargets, TargetsWrite, TargetsTouch, IsMarkedAt, whom_at, WritesAs, WrittenAt, Fits}
+use Rattle.func_flow.specs.Runs.{AreQuiet}
+use Rattle.func_flow.specs.Steps.{form_step, head_step, whom_of}
 use Rattle.func_flow.specs.Targets.{AreTargets}
-use Rattle.func_flow.proofs.Exact.{shadow_site, reads_head, checks_head, AreRight, CallRight, IsWhom}
+use Rattle.func_flow.proofs.Exact.{shadow_site, reads_head, checks_head, writes_head, AreRight, CallRight, IsWhom}
 use Rattle.func_flow.proofs.FormKinds.{Kind, plain, own, through, kind_of, plain_task, own_asks, table_asks}
 use Rattle.func_flow.proofs.Forward.{back, loops}
 use Rattle.func_flow.proofs.Known.{IsSound, Fine, fine_site, sound_of, task_there, reads_known, checks_known, may_write_known, may_touch_known}
@@ -182,6 +183,10 @@ module _ (m : Module) (f : ℕ) (t : Tables) (made : AreMade m f t) where
   joined_are : (j : Node) → of_node t.names.now.joined j ≡ joined_of cs results code j
   joined_are j = made.names.joined j ∙ ap (λ b. joined_of cs results (code_in unwatched b) j) made.same
 
+  stands_at : (p : ℕ) (s : Site) → IsSite S p s → slice_get t.steps.now p ≡ Some (head_step s.head)
+  stands_at p s is = ap (λ (ss : List Step). slice_get ss p) made.steps
+      ∙ step_at cs unwatched (code_of body.code) (body_label results (size code) ∷ []) Exit p s is
+
   few_params : (k : ℕ) (F : FuncType) → slice_get m.types k ≡ Some F → length F.params < 2 ^ 32
   few_params k F is = let le = made.sealed.limits limit.Params k (length F.params) (F, is, refl) in omega arith
 
@@ -286,15 +291,12 @@ module _ (m : Module) (f : ℕ) (t : Tables) (made : AreMade m f t) where
         by_own (Through i n) w e' who = absurd cc
     call_right p s op g w is e c who (through k F fe ty) =
         let same : Through k (length F.params) ≡ g = same_Some (Through k (length F.params)) g (sym (ap called_of (table_asks m op k (Some F) fe ty)) ∙ c) in
-        let st : slice_get t.steps.now p ≡ Some (form_step (CallBy k)) = step_here p s is ∙ (ap (λ h. Some (head_step h)) e ∙ ap (λ z. Some (form_step z)) fe) in
+        let st : slice_get t.steps.now p ≡ Some (form_step (CallBy k)) = stands_at p s is ∙ (ap (λ h. Some (head_step h)) e ∙ ap (λ z. Some (form_step z)) fe) in
         let has : Contains t.steps.now (form_step (CallBy k)) =
         (p, slice_get_within t.steps.now p (form_step (CallBy k)) st, get_or_from_slice_get t.steps.now p (form_step (CallBy k)) (form_step (CallBy k)) st) in
         let u = made.targets.all (form_step (CallBy k)) k has refl (slice_get_within m.types k F ty) in
         by_table g w same who (through_right k F ty u.0 u.1 (made.targets.right k u.0 u.1))
       where
-        step_here : (p : ℕ) (s : Site) → IsSite S p s → slice_get t.steps.now p ≡ Some (head_step s.head)
-        step_here p s is = ap (λ (ss : List Step). slice_get ss p) made.steps ∙ step_at cs unwatched (code_of body.code) (body_label results (size code) ∷ []) Exit p s is
-
         by_table : (g : Callee) (w : Whom) → Through k (length F.params) ≡ g → IsWhom g w → CallRight B R t (Through k (length F.params)) (whom.Through k)
             → CallRight B R t g w
         by_table (Own i) w e' who r = absurd cc
@@ -314,8 +316,7 @@ module _ (m : Module) (f : ℕ) (t : Tables) (made : AreMade m f t) where
           nexts = g.next;
           leads = g.stays;
           plain = made.plain cs results unwatched;
-          stands = λ p s is. ap (λ (ss : List Step). slice_get ss p) made.steps
-              ∙ step_at cs unwatched (code_of body.code) (body_label results (size code) ∷ []) Exit p s is;
+          stands = stands_at;
           tasks = λ p s op is e. task_there (context_of m made.names.kind body) op (fine p s is op e).1;
           tall = λ p s op is e. (fine p s is op e).0;
           positions = positions_are;
@@ -382,6 +383,42 @@ module _ (m : Module) (f : ℕ) (t : Tables) (made : AreMade m f t) where
       (either_true u.reads u.checks on))
       (All-contains (λ (v : LocUse). index_of v.loc < t.numbering.locals) (row_in (slice_get t.locs.now p)) u (made.locals p) has)
 
+  -- ---- what positions write
+
+  calls_none : (p : ℕ) (s : Site) (op : Instr) (x : Loc) → IsSite S p s → s.head ≡ DoHead op → TaskWrites no_calls (task_of cs op) x → whom_at t p ≡ None
+  calls_none p s op x is e h = go (kind_of m op (task_there (context_of m made.names.kind body) op (fine p s is op e).1))
+    where
+      go : Kind m op → whom_at t p ≡ None
+      go (plain a fe) = ap whom_of (stands_at p s is ∙ (ap (λ g. Some (head_step g)) e ∙ ap (λ z. Some (form_step z)) fe))
+      go (own g F fe ty) = absurd (subst (λ z. TaskWrites no_calls z x) (own_asks m op g (Some F) fe ty) h)
+      go (through k F fe ty) = absurd (subst (λ z. TaskWrites no_calls z x) (table_asks m op k (Some F) fe ty) h)
+
+  plain_writes : (p : ℕ) (x : Loc) → WritesIn t.locs.now p x → whom_at t p ≡ None
+  plain_writes p x w =
+      let d = ((made.plain cs results unwatched).writes p x).0 w in
+      let h = writes_head cs d.site.head x d.writes in
+      calls_none p d.site h.0 x d.is h.1.0 h.1.1
+
+  -- no call writes a local
+  local_writes : (p k : ℕ) → WrittenAt t p (loc.Local k) → WritesIn t.locs.now p (loc.Local k)
+  local_writes p k w = go (whom_at t p) w
+    where
+      by_targets : (u : ℕ) (known : Option Targets) → targets_in (slice_get t.targets.now u) ≡ known → TargetsWrite G known (loc.Local k) → ⊥
+      by_targets u None e h = h
+      by_targets u (Some v) e h = let lt = marked_loc G v.writes.items (loc.Local k) (made.targets.right u v e).writes_long h in omega arith
+
+      by_graph : (g : ℕ) → MayWrite m g (loc.Local k) → ⊥
+      by_graph g h = let lt = may_write_known m made.sealed made.heights g (loc.Local k) h in omega arith
+
+      go : (c : Option Whom) → WritesAs t p c (loc.Local k) → WritesIn t.locs.now p (loc.Local k)
+      go None h = h
+      go (Some (whom.Own g)) h = absurd (by_graph g (subst (λ z. MayWrite z g (loc.Local k)) made.inside
+          (h (subst (λ z. IsCallGraph z t.graph.now) (sym made.inside) made.graph))))
+      go (Some (whom.Through u)) h = absurd (by_targets u (targets_in (slice_get t.targets.now u)) refl h)
+
+  pub quiet : AreQuiet t
+  quiet = record { plain = plain_writes; locals = local_writes }
+
   pub fits : Fits t
   fits =
       let g = made.cfg cs results unwatched in
@@ -396,7 +433,8 @@ module _ (m : Module) (f : ℕ) (t : Tables) (made : AreMade m f t) where
             below x (joined_point cs results code n x (among_of (joined_of cs results code n) x (subst (λ (xs : List Node). Contains xs x) (joined_are n) has))));
         before = λ n. all_from (λ (k : Node). number k < t.numbering.nodes) (row_of t.cfg.now.before n) (λ a has. below a (g.stays a n ((g.before a n).0 has)).0);
         points = all_from (λ (k : Node). number k < t.numbering.nodes) t.cfg.now.points (λ n has. below n ((g.points n).0 has));
-        uses = λ p. all_from (λ (u : LocUse). (u.reads || u.checks) ≡ true → IsLoc G t.numbering.locals u.loc) (row_in (slice_get t.locs.now p)) (λ u has. use_loc p u has);
+        uses = λ p. all_from (λ (u : LocUse). (u.reads || u.checks) ≡ true → IsLoc G t.numbering.locals u.loc) (row_in (slice_get t.locs.now p))
+            (λ u has. use_loc p u has);
         earlier = λ n p at. below (At p.0) (shadow_site S p.0 n (near.earlier n p at));
         latest = λ n p at. below (At p.0) (shadow_site S p.0 n (near.latest n p at));
         nested = merely made.nest;

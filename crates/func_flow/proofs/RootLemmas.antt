@@ -33,7 +33,8 @@ adds_one K label node i xs is r = (
       (λ o. Contains-append_left xs (record { label = label; node = node } ∷ []) r o)
       (λ (j, ((l, same), e)).
       let node_is : r.node ≡ node = e ∙ (ap (item_number K) same ∙ sym is) in
-      let made : record { label = label; node = node } ≡ r = ap (λ z. record { label = z; node = node }) (sym l) ∙ ap (λ z. record { label = r.label; node = z }) (sym node_is) in
+      let made : record { label = label; node = node } ≡ r =
+      ap (λ z. record { label = z; node = node }) (sym l) ∙ ap (λ z. record { label = r.label; node = z }) (sym node_is) in
       subst (λ z. Contains (xs ++ record { label = label; node = node } ∷ []) z) made (Contains-push xs (record { label = label; node = node })))
       h,
 )

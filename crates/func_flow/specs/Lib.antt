@@ -1,7 +1,9 @@
 pub mod Items
 pub mod Steps
 pub mod Next
+pub mod Runs
 pub mod NextLaws
+pub mod RunLaws
 pub mod Roots
 pub mod Targets
 pub mod Made

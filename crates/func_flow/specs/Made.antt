@@ -9,7 +9,7 @@ use Rattle.wasm_types.specs.Sites.{body_sites}
 use Rattle.wasm_types.specs.Spaces.{globals_of}
 use Rattle.wasm_types.specs.Subset.{IsSealed}
 use Rattle.block_cfg.specs.Points.{IsCfgOf}
-use Rattle.stack_names.specs.Named.{AreNames}
+use Rattle.stack_names.specs.Ends.{HasValues}
 use Rattle.stack_repair.specs.Law.{ValidHasHeights}
 use Rattle.control_deps.specs.Nest.{IsNestOf}
 use Rattle.control_deps.specs.Nearest.{AreNearest}
@@ -27,7 +27,7 @@ pub record AreMade (m : Module) (f : ℕ) (t : Tables) : Type 0 where
   pub sealed : IsSealed m
   pub heights : ValidHasHeights
   pub inside : t.inside.now ≡ m
-  pub names : AreNames m f unwatched t.names.now
+  pub names : HasValues m f unwatched t.names.now
   pub same : names.body ≡ t.body.now
   pub cfg : IsCfgOf t.body.now t.cfg.now
   pub plain : (cs : Callees) (results : ℕ) (w : ℕ → Bool) → IsPlainTable cs (body_sites cs results (watched_code w t.body.now)) t.locs.now

@@ -138,7 +138,8 @@ ArgumentAt t places o w k j =
 -- the location of number i, at a call
 abbrev pub PlaceAt : Tables → ℕ → Output → Whom → ℕ → Item → Type 0
 PlaceAt t p o w i j =
-    (x : Loc) × (IsLoc t.numbering.globals t.numbering.locals x × ((loc_number t.numbering.globals x ≡ i) × ((RowIn t w o x ⊎ ChecksBy t w o x) × (j ≡ Needed x (At p)))))
+    (x : Loc) × (IsLoc t.numbering.globals t.numbering.locals x × ((loc_number t.numbering.globals x ≡ i)
+    × ((RowIn t w o x ⊎ ChecksBy t w o x) × (j ≡ Needed x (At p)))))
 
 -- by what stands at a position, and whom that calls
 abbrev pub ByStep : Tables → ℕ → Output → Option Step → Option Whom → Item → Type 0
@@ -214,7 +215,8 @@ Stop t _ j = ⊥
 
 -- by the number of a row: completion, the results, and a location at the end
 abbrev pub FirstFinal : Tables → ℕ → ℕ → Item → Type 0
-FirstFinal t label i j = (label ≡ i + 2) × ((x : Loc) × (IsLoc t.numbering.globals t.numbering.locals x × ((loc_number t.numbering.globals x ≡ i) × (j ≡ Needed x node.Exit))))
+FirstFinal t label i j =
+    (label ≡ i + 2) × ((x : Loc) × (IsLoc t.numbering.globals t.numbering.locals x × ((loc_number t.numbering.globals x ≡ i) × (j ≡ Needed x node.Exit))))
 
 abbrev pub First : Tables → ℕ → Item → Type 0
 First t label j =

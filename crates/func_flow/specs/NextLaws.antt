@@ -15,7 +15,6 @@ use Rattle.wasm_types.specs.declared.place.Node.{Node}
 use Rattle.wasm_types.specs.declared.place.Node.TheVariants as node
 use Rattle.wasm_types.specs.Nodes.{At}
 use Rattle.block_cfg.specs.Graph.{number, row_of}
-use Rattle.worklist.specs.Packed.{PackedEdge}
 use Rattle.stack_names.specs.declared.place.Place.{Place}
 use Rattle.stack_names.specs.Named.{of_node}
 use Rattle.flow_domain.specs.declared.loc_table.LocUse.{LocUse}
@@ -74,10 +73,10 @@ decider_item K n j e lt = subst (IsItem K) (sym e) (tt, lt)
 decided_item : (K : Numbering) (n : Node) (j : Item) → j ≡ Decided n → number n < K.nodes → IsItem K j
 decided_item K n j e lt = subst (IsItem K) (sym e) (tt, lt)
 
-written_item : (K : Numbering) (x : Loc) (n : Node) (j : Item) → j ≡ Written x n → IsLoc K.globals K.locals x → number n < K.nodes → IsItem K j
+pub written_item : (K : Numbering) (x : Loc) (n : Node) (j : Item) → j ≡ Written x n → IsLoc K.globals K.locals x → number n < K.nodes → IsItem K j
 written_item K x n j e ok lt = subst (IsItem K) (sym e) (ok, lt)
 
-needed_item : (K : Numbering) (x : Loc) (n : Node) (j : Item) → j ≡ Needed x n → IsLoc K.globals K.locals x → number n < K.nodes → IsItem K j
+pub needed_item : (K : Numbering) (x : Loc) (n : Node) (j : Item) → j ≡ Needed x n → IsLoc K.globals K.locals x → number n < K.nodes → IsItem K j
 needed_item K x n j e ok lt = subst (IsItem K) (sym e) (ok, lt)
 
 -- what stands at an index is contained
@@ -143,7 +142,9 @@ module _ (t : Tables) (fits : Fits t) where
   holder_fits false n j e lt = decided_item K n j e lt
 
   outward_item : (n : Node) → number n < K.nodes → (j : Item) → Outward t n j → IsItem K j
-  outward_item (node.At p) lt j (b, (around, e)) = let before = holder_before p.0 b around in holder_fits (arms_of (slice_get t.steps.now b.0)) (At b.0) j e (omega arith)
+  outward_item (node.At p) lt j (b, (around, e)) =
+      let before = holder_before p.0 b around in
+      holder_fits (arms_of (slice_get t.steps.now b.0)) (At b.0) j e (omega arith)
   outward_item (node.Join b) lt j h = holder_fits (arms_of (slice_get t.steps.now b.0)) (At b.0) j h (omega arith)
   outward_item node.Exit lt j h = absurd h
 
@@ -176,9 +177,3 @@ module _ (t : Tables) (fits : Fits t) where
   first_item some label j (inr (inl (i, (below, (is, (x, (ok, (same, e)))))))) = needed_item K x node.Exit j e ok some
   first_item some label j (inr (inr (is, (n, (has, h))))) =
       stop_item n (All-contains (λ (k : Node). number k < K.nodes) t.cfg.now.points n fits.points has) j h
-
-pub next_stays : (t : Tables) → Fits t → (x y : ℕ) → PackedEdge (IsItem t.numbering) (item_number t.numbering) (Next t) x y
-    → y < (2 * (t.numbering.globals + t.numbering.locals) + 10) * t.numbering.nodes
-next_stays t fits x y (i, (j, (from, (to, (ok, e))))) =
-    subst (λ n. n < (2 * (t.numbering.globals + t.numbering.locals) + 10) * t.numbering.nodes) (sym to)
-    (item_below t.numbering j (next_item t fits i ok j e))

@@ -20,10 +20,12 @@ ghost use Rattle.func_flow.specs.Items.{index_of};
 ghost use Rattle.func_flow.specs.Made.{AreMade};
 ghost use Rattle.func_flow.specs.Met.{IsFound};
 ghost use Rattle.func_flow.specs.Next as spec;
+ghost use Rattle.func_flow.specs.Runs.{AreQuiet, AreRuns};
 
 use crate::bounds::locs_bound;
 use crate::numbering::Numbering;
 use crate::rows::rows_at;
+use crate::runs::Runs;
 use crate::search::Flow;
 use crate::steps::steps;
 use crate::tables::Tables;
@@ -33,7 +35,7 @@ use call_graph::CallGraph;
 use control_deps::{Deciders, Nest};
 use flow_domain::{LocTable, Summary, SummaryTable, plain_locs};
 use sparse_reach::reach_sparse;
-use stack_names::names;
+use stack_names::value_names;
 use stack_repair::law_valid_has_heights;
 use std::alloc::Global;
 use wasm_types::{Body, Instr, NoMemory, Node, Point, Pos, ValidModule};
@@ -108,7 +110,7 @@ fn numbering_of(body: &Body, locs: &LocTable, own: &Summary) -> Numbering
     }
 }
 
-/// What the search from the outputs meets where a body begins, as a summary.
+/// What the search from the outputs meets at the point where a body begins, its end or its first position, as a summary.
 fn search(
     alloc: Global,
     flow: &Flow,
@@ -117,6 +119,9 @@ fn search(
     params: u32,
 ) -> Result<Summary, NoMemory>
     requires first { number first < flow.now.tables.numbering.nodes }
+    requires begins { number first ≤ 1 }
+    requires runs { AreRuns flow.now.tables flow.now.runs.now }
+    requires quiet { AreQuiet flow.now.tables }
     requires globals { flow.now.tables.numbering.globals ≡ globals }
     requires params { params ≤ flow.now.tables.numbering.locals }
     ensures shape { IfOk result (λ s. IsShape globals params s) }
@@ -148,17 +153,19 @@ fn rows_by(
 {
     let first = first_point(tables.body.code.as_slice());
     let points = points_of(alloc, tables.cfg, tables.numbering.nodes)?;
+    let runs = Runs::new(alloc, &tables, &points)?;
     let flow = Flow {
         tables,
         points: &points,
+        runs: &runs,
     };
     let rows = search(alloc, &flow, first, globals, params)?;
     Ok(rows)
 }
 
 /// The rows of an own function by one round (docs/ANALYSES.md, "Rows"): for each output the inputs that it leads to, by the rows that a table has for the
-/// functions called. It takes time and memory by the body, by the locations that are needed at its
-/// points for each output, and by the targets of each type that it calls through the table. It fails only where memory is refused.
+/// functions called. It takes time and memory by the body, by the locations that are needed at the beginnings of its runs of points for each output, and by the
+/// targets of each type that it calls through the table. It fails only where memory is refused.
 pub fn flow_rows(
     alloc: Global,
     m: &ValidModule,
@@ -177,7 +184,7 @@ pub fn flow_rows(
     law_valid_has_heights();
     let body = own_body(m, func);
     let own = own_rows(m, func, table);
-    let names = names(alloc, m, func)?;
+    let names = value_names(alloc, m, func)?;
     let cfg = edges(alloc, body)?;
     let locs = plain_locs(alloc, m, func)?;
     let nest = Nest::of(alloc, body)?;

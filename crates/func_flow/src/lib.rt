@@ -8,6 +8,7 @@ mod made;
 mod numbering;
 mod roots;
 mod rows;
+mod runs;
 mod search;
 mod steps;
 mod tables;

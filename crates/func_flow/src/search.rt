@@ -14,11 +14,13 @@ ghost use Rattle.flow_domain.specs.LocTables.{row_in};
 ghost use Rattle.func_flow.specs.declared.items.Item.{Item};
 ghost use Rattle.func_flow.specs.Items.{IsItem, IsLoc, Numbered, item_number, loc_number};
 ghost use Rattle.func_flow.specs.Next as spec;
-ghost use Rattle.func_flow.specs.NextLaws.{next_stays};
+ghost use Rattle.func_flow.specs.RunLaws.{short_stays};
+ghost use Rattle.func_flow.specs.Runs.{IsInOrder, Lands, Settled, SettledFrom, Short, entry_at, join_only};
 ghost use Rattle.func_flow.specs.Steps.{decides_of, whom_of};
 
 use crate::items::Item;
 use crate::made::Made;
+use crate::runs::Runs;
 use crate::steps::{Picks, Step, Whom};
 use crate::tables::Tables;
 use crate::targets::Targets;
@@ -28,15 +30,17 @@ use stack_names::Place;
 use wasm_types::{Loc, NoMemory, Node, Point, Pos};
 use worklist::Graph;
 
-/// The graph of the items, by the tables of a body.
+/// The graph of the items, by the tables of a body and its runs.
 #[derive(Drop)]
 pub(crate) struct Flow<'a> {
     pub(crate) tables: Tables<'a>,
     /// By the number of a node whether it is a point.
     pub(crate) points: &'a [bool],
+    pub(crate) runs: &'a Runs,
     ghost fits: { spec.Fits tables },
     ghost nodes: { tables.numbering.nodes ≡ 2 * length tables.nest.now + 1 },
     ghost pointed: { spec.AreMarked tables.cfg.now.points tables.numbering.nodes points.now },
+    ghost order: { IsInOrder runs.now },
 }
 
 /// Whether a mark stands at a number.
@@ -46,6 +50,19 @@ pub(crate) fn is_marked(marks: &[bool], index: usize) -> bool
     match marks.get(index) {
         Some(mark) => *mark,
         None => false,
+    }
+}
+
+/// The join that alone leads to a point, and else the point itself.
+fn join_of(before: &[Point], point: Point) -> Point
+    ensures { result ≡ join_only true before.now point }
+{
+    if before.len() != 1 {
+        return point;
+    }
+    match before[0] {
+        Point::Join(block) => Point::Join(block),
+        Point::At(_) | Point::Exit => point,
     }
 }
 
@@ -512,24 +529,62 @@ impl Flow<'_> {
         }
     }
 
+    /// Where a run comes from that begins at a position.
+    fn entry(&self, start: u32) -> Point
+        requires { number (At start) < self.now.tables.numbering.nodes }
+        ensures { result ≡ entry_at self.now.tables.cfg.now start }
+    {
+        let point = Node::At(Pos(start));
+        if start == 0 || !self.points[point_number(point)] {
+            return point;
+        }
+        join_of(self.tables.cfg.before(point), point)
+    }
+
+    /// Where a location comes from that is needed at a position whose run begins at another.
+    fn settled_from(&self, loc: Loc, start: u32, pos: Pos) -> Item
+        requires start { start ≤ pos.0 }
+        requires node { number (At pos.0) < self.now.tables.numbering.nodes }
+        requires loc { IsLoc self.now.tables.numbering.globals self.now.tables.numbering.locals loc }
+        ensures { SettledFrom self.now.tables self.now.runs.now loc start pos.0 result }
+    {
+        match self.runs.writer(loc, start, pos.0) {
+            Some(writer) => Item::Written(loc, Node::At(Pos(writer))),
+            None => Item::Needed(loc, self.entry(start)),
+        }
+    }
+
+    /// Where a location comes from that is needed at a point.
+    fn settled(&self, loc: Loc, point: Point) -> Item
+        requires node { number point < self.now.tables.numbering.nodes }
+        requires loc { IsLoc self.now.tables.numbering.globals self.now.tables.numbering.locals loc }
+        ensures { Settled self.now.tables self.now.runs.now loc point result }
+    {
+        match point {
+            Point::At(pos) => self.settled_from(loc, self.runs.start(loc, pos.0), pos),
+            Point::Join(_) | Point::Exit => Item::Needed(loc, point),
+        }
+    }
+
     /// On to a point before one at which a location is needed.
     fn passed(&self, loc: Loc, point: Point) -> Item
         requires node { number point < self.now.tables.numbering.nodes }
         requires loc { IsLoc self.now.tables.numbering.globals self.now.tables.numbering.locals loc }
-        ensures exact { (j : Item) → spec.Passes self.now.tables loc point j ↔ (j ≡ result) }
+        ensures exact { (j : Item) → Lands self.now.tables self.now.runs.now loc point j ↔ (j ≡ result) }
         ensures item { IsItem self.now.tables.numbering result }
     {
         if self.writes(point, loc) {
             Item::Written(loc, point)
         } else {
-            Item::Needed(loc, point)
+            self.settled(loc, point)
         }
     }
 
     fn push_earlier(&self, loc: Loc, point: Point, next: &mut Vec<usize>) -> Result<(), NoMemory>
         requires node { number point < self.now.tables.numbering.nodes }
         requires loc { IsLoc self.now.tables.numbering.globals self.now.tables.numbering.locals loc }
-        ensures { IfOk result (λ _. Gains (Numbered self.now.tables.numbering (spec.Passes self.now.tables loc point)) next.old.items next.new.items) }
+        ensures { IfOk result (λ _. Gains (Numbered self.now.tables.numbering (Lands self.now.tables self.now.runs.now loc point))
+            next.old.items next.new.items) }
     {
         let item = self.passed(loc, point);
         self.push(item, next)?;
@@ -540,7 +595,7 @@ impl Flow<'_> {
     fn push_before(&self, loc: Loc, point: Point, next: &mut Vec<usize>) -> Result<(), NoMemory>
         requires node { number point < self.now.tables.numbering.nodes }
         requires loc { IsLoc self.now.tables.numbering.globals self.now.tables.numbering.locals loc }
-        ensures { IfOk result (λ _. Gains (Numbered self.now.tables.numbering (spec.Next self.now.tables (Item.Needed loc point)))
+        ensures { IfOk result (λ _. Gains (Numbered self.now.tables.numbering (Short self.now.tables self.now.runs.now (Item.Needed loc point)))
             next.old.items next.new.items) }
     {
         if !self.points[point_number(point)] {
@@ -554,7 +609,7 @@ impl Flow<'_> {
 
     fn push_from(&self, item: Item, next: &mut Vec<usize>) -> Result<(), NoMemory>
         requires { IsItem self.now.tables.numbering item }
-        ensures { IfOk result (λ _. Gains (Numbered self.now.tables.numbering (spec.Next self.now.tables item)) next.old.items next.new.items) }
+        ensures { IfOk result (λ _. Gains (Numbered self.now.tables.numbering (Short self.now.tables self.now.runs.now item)) next.old.items next.new.items) }
     {
         match item {
             Item::Value(node) => {
@@ -588,7 +643,7 @@ impl Flow<'_> {
 impl Graph for Flow<'_> {
     ghost node_count = { λ flow. (2 * (flow.tables.numbering.globals + flow.tables.numbering.locals) + 10) * flow.tables.numbering.nodes };
 
-    ghost leads = { λ flow. PackedEdge (IsItem flow.tables.numbering) (item_number flow.tables.numbering) (spec.Next flow.tables) };
+    ghost leads = { λ flow. PackedEdge (IsItem flow.tables.numbering) (item_number flow.tables.numbering) (Short flow.tables flow.runs.now) };
 
     fn node_count(&self) -> usize {
         self.tables.numbering.count()
@@ -600,5 +655,5 @@ impl Graph for Flow<'_> {
         Ok(())
     }
 
-    ghost stays = { λ flow x y lt e. next_stays flow.tables flow.fits x y e };
+    ghost stays = { λ flow x y lt e. short_stays flow.tables flow.runs.now flow.fits flow.order x y e };
 }

@@ -9,13 +9,13 @@ use Rattle.func_flow.specs.Targets.{AreAllTargets}
 use Rattle.func_flow.proofs.FlowLemmas.{value_of, own_at}
 use Rattle.func_flow.proofs.flow.flow_rows.Goals as goal
 
-pub names-requires-clause-imported : goal.names-requires-clause-imported
-names-requires-clause-imported c =
+pub value_names-requires-clause-imported : goal.value_names-requires-clause-imported
+value_names-requires-clause-imported c =
     let m = c.args.m.now in
     let body = value_of (body_of m c.args.func) c.requires.own in (own_at m c.args.func body.0 body.1).0
 
-pub names-requires-clause-own : goal.names-requires-clause-own
-names-requires-clause-own c =
+pub value_names-requires-clause-own : goal.value_names-requires-clause-own
+value_names-requires-clause-own c =
     let m = c.args.m.now in
     let body = value_of (body_of m c.args.func) c.requires.own in (own_at m c.args.func body.0 body.1).1
 

@@ -1,12 +1,13 @@
-use Rattle.std.proofs.Common.{◌≡◌, ◌<◌, ◌∙◌, None, true, length, sym, ap, subst, arith}
+use Rattle.std.proofs.Common.{◌≡◌, ◌<◌, ◌≤◌, ◌∙◌, None, true, length, sym, ap, subst, arith}
 use Rattle.wasm_types.specs.declared.place.Node.{Node}
 use Rattle.wasm_types.specs.declared.place.Node.TheVariants.{Exit}
 use Rattle.wasm_types.specs.Code.{code_of, count}
 use Rattle.block_cfg.specs.Graph.{number}
 use Rattle.block_cfg.specs.Walk.{first_of}
 use Rattle.control_deps.proofs.SpotLemmas.{length_spots}
-use Rattle.func_flow.proofs.FlowLemmas.{first_within, found_led}
-use Rattle.func_flow.proofs.Right.{fits}
+use Rattle.func_flow.proofs.FlowLemmas.{first_within, first_low, found_led}
+use Rattle.func_flow.proofs.Right.{fits, quiet}
+use Rattle.func_flow.proofs.RunLemmas.{order_of}
 use Rattle.func_flow.proofs.flow.rows_by.Goals as goal
 
 pub points_of-requires : goal.points_of-requires
@@ -21,8 +22,21 @@ invariant_of-flow c =
     record {
       fits = fits c.args.m.now c.args.func t c.requires.made;
       nodes = omega arith;
-      pointed = rw c.deref.ensures.value c.in_ok-points.ensures;
+      pointed = rw c.deref-2.ensures.value c.in_ok-points.ensures;
+      order = order_of c.args.tables c.in_ok-runs.runs c.in_ok-runs.ensures;
     }
+
+pub search-requires-clause-runs : goal.search-requires-clause-runs
+search-requires-clause-runs c = c.in_ok-runs.ensures
+
+pub search-requires-clause-quiet : goal.search-requires-clause-quiet
+search-requires-clause-quiet c = quiet c.args.m.now c.args.func c.args.tables c.requires.made
+
+pub search-requires-clause-begins : goal.search-requires-clause-begins
+search-requires-clause-begins c =
+    let t = c.args.tables in
+    let is : c.first_point-first.result ≡ first_of 0 (code_of t.body.now.code) Exit = rw c.as_slice.ensures at c.first_point-first.ensures in
+    subst (λ (n : Node). number n ≤ 1) (sym is) (first_low (code_of t.body.now.code))
 
 pub search-requires-clause-first : goal.search-requires-clause-first
 search-requires-clause-first c =

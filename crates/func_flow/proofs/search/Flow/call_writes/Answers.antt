@@ -8,6 +8,6 @@ pub returns-in-Own : goal.returns-in-Own
 returns-in-Own c =
     let t = c.args.self.now.tables in
     subst (λ w. IsTrue c.writes.result ↔ WritesBy t w c.args.loc) (sym c.in-Own.is) (
-      λ h graph. (c.writes.ensures t.inside.now graph).0 h,
-      λ w. told_true c.writes.result c.args.self.now.fits.told (λ graph. c.writes.ensures t.inside.now graph) w,
+      λ h graph. (c.writes.ensures.writes t.inside.now graph).0 h,
+      λ w. told_true c.writes.result c.args.self.now.fits.told (λ graph. c.writes.ensures.writes t.inside.now graph) w,
     )

@@ -9,9 +9,9 @@ use Rattle.func_flow.proofs.targets.Effect.holds.Goals as goal
 pub returns-in-Writes : goal.returns-in-Writes
 returns-in-Writes c =
     subst (λ (e : Effect). (m : Module) → IsCallGraph m c.args.graph.now → IsTrue c.writes.result ↔ HasEffect m e c.args.func c.args.loc)
-    (sym c.in-Writes.is) c.writes.ensures
+    (sym c.in-Writes.is) c.writes.ensures.writes
 
 pub returns-in-Touches : goal.returns-in-Touches
 returns-in-Touches c =
     subst (λ (e : Effect). (m : Module) → IsCallGraph m c.args.graph.now → IsTrue c.touches.result ↔ HasEffect m e c.args.func c.args.loc)
-    (sym c.in-Touches.is) c.touches.ensures
+    (sym c.in-Touches.is) c.touches.ensures.touches
