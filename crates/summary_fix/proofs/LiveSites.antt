@@ -9,7 +9,7 @@ use Rattle.wasm_types.specs.Marked.{Marked, End, Do, Block, Loop, If, Br, BrIf, 
 use Rattle.wasm_types.specs.Actions.{Callees, callees, Callee, Own, Through, Form, NoForm, Plain, CallOf, CallBy, form_of, own_task, table_task, task_by, called_of}
 use Rattle.wasm_types.specs.Nodes.{Join, made}
 use Rattle.wasm_types.specs.Labels.{arity, Label, block_label, loop_label}
-use Rattle.wasm_types.specs.Sites.{Head, DoHead, Site, Sites, IsSite, sites, Among}
+use Rattle.wasm_types.specs.Sites.{Head, DoHead, Site, Sites, IsSite, sites, body_sites, Among}
 use Rattle.wasm_types.specs.Spaces.{type_of_func}
 use Rattle.wasm_types.specs.Funcs.{Func, func_of, text}
 use Rattle.flow_domain.specs.Bounds.{Bounds, called}
@@ -80,8 +80,11 @@ live_site cs (Return m rest) ctx k p names s op (inr a) h = absurd (no_site (siz
 live_site cs (Unreachable m rest) ctx k p names s op (inl e) h = let wrong = first_head _ s op e h in absurd cc
 live_site cs (Unreachable m rest) ctx k p names s op (inr a) h = absurd (no_site (size rest) s a)
 
+pub body_live : (cs : Callees) (t : ℕ) (code : Marked) (p : ℕ) (s : Site) (op : Instr) → IsSite (body_sites cs t code) p s → s.head ≡ DoHead op → LiveIn op code
+body_live cs t code p s op is h = live_site cs code _ Exit 0 [] s op (among_get (body_sites cs t code) p (Some s) is) h
+
 pub site_live : (B : Bounds) (F : Func) (p : ℕ) (s : Site) (op : Instr) → IsSite (func_sites B F) p s → s.head ≡ DoHead op → LiveIn op (text F)
-site_live B F p s op is h = live_site (callees B.m) (text F) _ Exit 0 [] s op (among_get (func_sites B F) p (Some s) is) h
+site_live B F p s op is h = body_live (callees B.m) F.results (text F) p s op is h
 
 same_some : {X : Type 0} (x y : X) → Some x ≡ Some y → x ≡ y
 same_some x y e = cc
@@ -125,8 +128,13 @@ module _ (m : Module) (f : ℕ) (F : Func) (is : func_of m f ≡ Some F) (op : I
   by_form (CallOf k) e (Through u n) same h called = absurd same
   by_form (CallBy t) e (Own g) same h called = absurd same
 
--- a function calls whom its sites call
+-- a function calls whom its live instructions call
+pub live_calls : (B : Bounds) (f : ℕ) (F : Func) (op : Instr) (g : Callee) → func_of B.m f ≡ Some F → LiveIn op (text F) → called B op ≡ Some g → (h : ℕ)
+    → IsCalled B.m g h → CallsFunc B.m f h
+live_calls B f F op g is live called h callee = by_form B.m f F is op live (form_of op) refl g (form_calls B.m (form_of op) g called) h callee
+
+-- and whom its sites call
 pub site_calls : (B : Bounds) (f : ℕ) (F : Func) (p : ℕ) (s : Site) (op : Instr) (g : Callee) → func_of B.m f ≡ Some F → IsSite (func_sites B F) p s
     → s.head ≡ DoHead op → called B op ≡ Some g → (h : ℕ) → IsCalled B.m g h → CallsFunc B.m f h
 site_calls B f F p s op g is site head called h callee =
-    by_form B.m f F is op (site_live B F p s op site head) (form_of op) refl g (form_calls B.m (form_of op) g called) h callee
+    live_calls B f F op g is (site_live B F p s op site head) called h callee

@@ -1,10 +1,12 @@
 -- Marks of functions whose rows may have to be made anew.
-use Rattle.std.proofs.Common.{◌≡◌, ◌≢◌, ℕ, ◌+◌, ◌<◌, ◌≤◌, ◌⊎◌, inl, inr, ⊎_elim, List, Bool, true, false, cond, if◌then◌else◌, length, get_or, set, take, refl, sym, ap, ◌∙◌, subst, arith, get_or-set_other}
+use Rattle.std.proofs.Common.{◌≡◌, ◌≢◌, ℕ, zero, suc, replicate, ◌+◌, ◌<◌, ◌≤◌, ◌⊎◌, inl, inr, ⊎_elim, List, Bool, true, false, cond, if◌then◌else◌}
+use Rattle.std.proofs.Common.{length, get_or, set, take, refl, sym, ap, ◌∙◌, subst, arith, get_or-set_other}
 use Rattle.std.specs.List.{Contains}
 use Rattle.std.proofs.lemmas.Bool.{cases_eq}
 use Rattle.std.proofs.lemmas.List.{take_more}
 use Rattle.std.proofs.lemmas.List.Elements.{Contains-push_cases}
 use Rattle.wasm_types.specs.declared.module.Module.{Module}
+use Rattle.wasm_types.specs.Spaces.{func_types}
 use Rattle.worklist.specs.Search.{IsMarked}
 use Rattle.flow_domain.specs.Reach.{CallsFunc}
 use Rattle.flow_domain.specs.declared.summary_table.SummaryTable.{SummaryTable}
@@ -13,15 +15,20 @@ use Rattle.summary_fix.specs.Settled.{IsFull, IsSettled}
 off_on : {A : Type 0} (b : Bool) → b ≡ false → b ≡ true → A
 off_on b off on = absurd cc
 
-pub settled_after : (m : Module) (t u : SummaryTable) (marks after : List Bool) (func : ℕ) → IsSettled m t marks → length after ≡ length u.rows.items → IsFull m u func
-    → ((f : ℕ) → IsFull m t f → (CallsFunc m f func → ⊥) → IsFull m u f) → ((f : ℕ) → IsMarked (set marks func false) f → IsMarked after f)
-    → ((f : ℕ) → CallsFunc m f func → IsMarked after f) → IsSettled m u after
-settled_after m t u marks after func settled long full others kept callers = record { long = long; either = λ f fn. by f (settled.either f fn) (get_or after f false) refl }
+pub settled_after : (m : Module) (t u : SummaryTable) (wanted marks after : List Bool) (func : ℕ) → IsSettled m t wanted marks
+    → length u.rows.items ≡ length t.rows.items → length after ≡ length u.rows.items → IsFull m u func → ((f : ℕ) → IsFull m t f → (CallsFunc m f func → ⊥) → IsFull m u f)
+    → ((f : ℕ) → IsMarked (set marks func false) f → IsMarked after f) → ((f : ℕ) → CallsFunc m f func → IsMarked wanted f → IsMarked after f)
+    → IsSettled m u wanted after
+settled_after m t u wanted marks after func settled same long full others kept callers = record {
+  long = long;
+  wanted_long = settled.wanted_long ∙ sym same;
+  either = λ f fn want. by f want (settled.either f fn want) (get_or after f false) refl;
+}
   where
-    by : (f : ℕ) → IsFull m t f ⊎ IsMarked marks f → (b : Bool) → get_or after f false ≡ b → IsFull m u f ⊎ IsMarked after f
-    by f old true on = inr on
-    by f (inl was) false off = inl (others f was (λ calls. off_on (get_or after f false) off (callers f calls)))
-    by f (inr marked) false off = elim (cases_eq f func) [
+    by : (f : ℕ) → IsMarked wanted f → IsFull m t f ⊎ IsMarked marks f → (b : Bool) → get_or after f false ≡ b → IsFull m u f ⊎ IsMarked after f
+    by f want old true on = inr on
+    by f want (inl was) false off = inl (others f was (λ calls. off_on (get_or after f false) off (callers f calls want)))
+    by f want (inr marked) false off = elim (cases_eq f func) [
       | inl e ↦ inl (subst (IsFull m u) (sym e) full)
       | inr ne ↦ off_on (get_or after f false) off (kept f (get_or-set_other marks func f false false ne ∙ marked))
     ]
@@ -46,3 +53,15 @@ pub kept_room : (first before after now less : ℕ) (grew grows : Bool) → befo
     → now + cond grows 1 0 ≤ first
 kept_room first before after now less grew grows so_far down same e =
     let g : cond {A = ℕ} grows 1 0 ≡ cond {A = ℕ} grew 1 0 = ap {A = Bool} {B = ℕ} (λ b. cond b 1 0) e in omega arith
+
+-- where each is wanted
+
+marked_each : (n f : ℕ) → f < n → IsMarked (replicate n true) f
+marked_each zero f lt = absurd (omega arith)
+marked_each (suc n) zero lt = refl
+marked_each (suc n) (suc f) lt = marked_each n f (omega arith)
+
+pub all_full : (m : Module) (t : SummaryTable) (wanted : List Bool) (n : ℕ) → wanted ≡ replicate n true → n ≡ length (func_types m)
+    → ((f : ℕ) → f < length (func_types m) → IsMarked wanted f → IsFull m t f) → (f : ℕ) → f < length (func_types m) → IsFull m t f
+all_full m t wanted n each same full f fn =
+    full f fn (subst (λ (marks : List Bool). IsMarked marks f) (sym each) (marked_each n f (omega (arith, same, fn))))

@@ -1,24 +1,28 @@
 -- Rows that are added are rows of rounds, and where no rows are to be added all rounds' are there.
-use Rattle.std.proofs.Common.{◌≡◌, ℕ, zero, suc, ◌<◌, ◌≤◌, ◌⊎◌, inl, inr, ⊎_elim, List, Bool, true, false, Option, Some, None, IsSome, length, get_or, slice_get, refl, sym, ◌∙◌, subst, arith, length-append}
+use Rattle.std.proofs.Common.{◌≡◌, ◌↔◌, ℕ, zero, suc, ◌<◌, ◌≤◌, ◌⊎◌, inl, inr, ⊎_elim, List, Bool, true, false, Option, Some, None, IsSome, length, get_or}
+use Rattle.std.proofs.Common.{slice_get, refl, sym, ◌∙◌, subst, arith, length-append}
 use Rattle.std.proofs.lemmas.Option.{slice_get_within, slice_get-get_or}
 use Rattle.wasm_types.specs.declared.module.FuncType.{FuncType}
 use Rattle.wasm_types.specs.declared.module.Module.{Module}
 use Rattle.wasm_types.specs.declared.place.Loc.{Loc}
 use Rattle.wasm_types.specs.Actions.{Callee, Own, Through}
+use Rattle.wasm_types.specs.Hosts.{IsFunction}
 use Rattle.wasm_types.specs.Nodes.{At}
 use Rattle.wasm_types.specs.Spaces.{func_types, func_import, imported, globals_of, import_count, type_of_func, body_of}
 use Rattle.wasm_types.specs.Subset.{HasNoFloat}
 use Rattle.wasm_types.specs.Validity.{IsValid}
 use Rattle.flow_domain.specs.Bounds.{Cover, Bounds, bounds}
-use Rattle.flow_domain.specs.Reach.{CallsFunc}
+use Rattle.worklist.specs.Search.{IsMarked}
+use Rattle.flow_domain.specs.Reach.{CallsFunc, Reached, itself, after_call}
 use Rattle.flow_domain.specs.Rows.{Output, Rows, RowOf, Makes, LedTo, by_code, by_host, Dep, AnyRound, ImportRows, func_sites}
 use Rattle.flow_domain.specs.Summaries.{IsSet, row_number, column_number, HasInput, IsKnown, IsMerged, IsShape, IsTableOf, TableRows}
 use Rattle.flow_domain.specs.Touch.{IsExact}
 use Rattle.flow_domain.specs.declared.summary.Summary.{Summary}
 use Rattle.flow_domain.specs.declared.summary_table.SummaryTable.{SummaryTable}
+use Rattle.call_graph.proofs.Calling.{calls_below}
 use Rattle.flow_laws.proofs.Sound.{any_round_holds}
-use Rattle.summary_fix.specs.Settled.{IsSound, IsFull}
-use Rattle.summary_fix.specs.TwoRuns.{IsLeastTable}
+use Rattle.summary_fix.specs.Settled.{IsClosed, IsSound, IsFull}
+use Rattle.summary_fix.specs.TwoRuns.{CallsLead, IsLeastFrom, IsLeastTable}
 use Rattle.summary_fix.proofs.Between.{led_asks, ledto_between}
 use Rattle.summary_fix.proofs.LiveSites.{IsCalled, site_calls}
 use Rattle.summary_fix.proofs.Known.{asked_known}
@@ -44,7 +48,7 @@ callee_more m R Q out x more (Through t n) (inl i) = inl i
 callee_more m R Q out x more (Through t n) (inr row) = inr (row.0, row.1, more row.0 row.2)
 
 -- the same of those that are called
-callee_more_of : (m : Module) (R Q : Rows) (out : Output) (x : Loc) (g : Callee) → ((h : ℕ) → IsCalled m g h → R h out x → Q h out x) → RowOf m R g out x
+pub callee_more_of : (m : Module) (R Q : Rows) (out : Output) (x : Loc) (g : Callee) → ((h : ℕ) → IsCalled m g h → R h out x → Q h out x) → RowOf m R g out x
     → RowOf m Q g out x
 callee_more_of m R Q out x (Own f) more row = more f refl row
 callee_more_of m R Q out x (Through t n) more (inl i) = inl i
@@ -160,35 +164,79 @@ imported_full m t is f none = record { has = go }
 
 -- ---- the end
 
-module _ (m : Module) (valid : IsValid m) (integer : HasNoFloat m) (t : SummaryTable) (sound : IsSound m t)
-    (full : (f : ℕ) → f < length (func_types m) → IsFull m t f) where
-  module _ (W : Cover) (exact : IsExact m W) where
-    -- only known outputs are asked for
-    known_only : (R : Rows) → ((h : ℕ) (out : Output) (y : Loc) → IsKnown (length (globals_of m)) out → R h out y → TableRows t h out y) → (f : ℕ)
-        (o : Output) (x : Loc) → LedTo R (bounds m W) f o x → LedTo (TableRows t) (bounds m W) f o x
-    known_only R more f o x led =
-        ledto_between (bounds m W) R (TableRows t) f o x
-        (λ F is p s op g out y site head called asked row.
-        callee_more m R (TableRows t) out y
-        (λ h r. more h out y
-        (asked_known m valid integer W exact.writes (func_sites (bounds m W) F) p s op g out site head called (led_asks (bounds m W) _ _ _ o (Makes (At p) out) asked))
-        r)
-        g row)
-        led
+module _ (m : Module) (valid : IsValid m) (integer : HasNoFloat m) (t : SummaryTable) (sound : IsSound m t) (Wanted : ℕ → Type 0) (closed : IsClosed m Wanted)
+    (full : (f : ℕ) → f < length (func_types m) → Wanted f → IsFull m t f) (W : Cover) (exact : IsExact m W) where
+  is_function : (R : Rows) (f : ℕ) (o : Output) (x : Loc) → LedTo R (bounds m W) f o x → f < length (func_types m)
+  is_function R f o x (by_code F is needed input) = (parts m f F is).within
+  is_function R f o x (by_host row) =
+      let lt = (host_parts m f row.0 row.1).imported in let long = length-append (imported func_import m.imports) m.funcs in omega arith
 
-    is_function : (R : Rows) (f : ℕ) (o : Output) (x : Loc) → LedTo R (bounds m W) f o x → f < length (func_types m)
-    is_function R f o x (by_code F is needed input) = (parts m f F is).within
-    is_function R f o x (by_host row) =
-        let lt = (host_parts m f row.0 row.1).imported in let long = length-append (imported func_import m.imports) m.funcs in omega arith
+  -- only known outputs of functions that are called are asked for
+  known_only : (R : Rows) (f : ℕ) → ((h : ℕ) (out : Output) (y : Loc) → CallsFunc m f h → IsKnown (length (globals_of m)) out → R h out y → TableRows t h out y)
+      → (o : Output) (x : Loc) → LedTo R (bounds m W) f o x → LedTo (TableRows t) (bounds m W) f o x
+  known_only R f more o x led =
+      ledto_between (bounds m W) R (TableRows t) f o x
+      (λ F is p s op g out y site head called asked row.
+      callee_more_of m R (TableRows t) out y g
+      (λ h callee r. more h out y (site_calls (bounds m W) f F p s op g is site head called h callee)
+      (asked_known m valid integer W exact.writes (func_sites (bounds m W) F) p s op g out site head called
+      (led_asks (bounds m W) _ _ _ o (Makes (At p) out) asked))
+      r)
+      row)
+      led
 
-    step : (R : Rows) → ((h : ℕ) (out : Output) (y : Loc) → IsKnown (length (globals_of m)) out → R h out y → TableRows t h out y) → (f : ℕ)
-        (o : Output) (x : Loc) → IsKnown (length (globals_of m)) o → LedTo R (bounds m W) f o x → TableRows t f o x
-    step R more f o x known led = (full f (is_function R f o x led)).has W exact o x known (known_only R more f o x led)
+  step : (R : Rows) → ((h : ℕ) (out : Output) (y : Loc) → R h out y → h < length (func_types m))
+      → ((h : ℕ) (out : Output) (y : Loc) → Wanted h → IsKnown (length (globals_of m)) out → R h out y → TableRows t h out y) → (f : ℕ) → Wanted f
+      → (o : Output) (x : Loc) → IsKnown (length (globals_of m)) o → LedTo R (bounds m W) f o x → TableRows t f o x
+  step R there more f want o x known led =
+      (full f (is_function R f o x led) want).has W exact o x known
+      (known_only R f (λ h out y calls k row. more h out y (closed f h want calls (there h out y row)) k row) o x led)
 
-    rounds_within : (n f : ℕ) (o : Output) (x : Loc) → IsKnown (length (globals_of m)) o → Dep (bounds m W) n f o x → TableRows t f o x
-    rounds_within zero f o x known led =
-        step (ImportRows m) (λ h out y k row. (sound.table.imports h out y (host_parts m h row.0 row.1).imported k).1 row) f o x known led
-    rounds_within (suc n) f o x known led = step (Dep (bounds m W) n) (λ h out y k row. rounds_within n h out y k row) f o x known led
+  dep_function : (n f : ℕ) (o : Output) (x : Loc) → Dep (bounds m W) n f o x → f < length (func_types m)
+  dep_function zero f o x led = is_function (ImportRows m) f o x led
+  dep_function (suc n) f o x led = is_function (Dep (bounds m W) n) f o x led
 
-  pub least_table : IsLeastTable m t
-  least_table W exact f o x known = (sound.rounds W exact f o x, λ row. rounds_within W exact row.0 f o x known row.1)
+  import_function : (f : ℕ) (o : Output) (x : Loc) → ImportRows m f o x → f < length (func_types m)
+  import_function f o x row =
+      let lt = (host_parts m f row.0 row.1).imported in let long = length-append (imported func_import m.imports) m.funcs in omega arith
+
+  rounds_within : (n f : ℕ) → Wanted f → (o : Output) (x : Loc) → IsKnown (length (globals_of m)) o → Dep (bounds m W) n f o x → TableRows t f o x
+  rounds_within zero f want o x known led =
+      step (ImportRows m) import_function (λ h out y w k row. (sound.table.imports h out y (host_parts m h row.0 row.1).imported k).1 row) f want o x known led
+  rounds_within (suc n) f want o x known led =
+      step (Dep (bounds m W) n) (dep_function n) (λ h out y w k row. rounds_within n h w out y k row) f want o x known led
+
+  pub least_wanted : (f : ℕ) (o : Output) (x : Loc) → Wanted f → IsKnown (length (globals_of m)) o → TableRows t f o x ↔ AnyRound (bounds m W) f o x
+  least_wanted f o x want known = (sound.rounds W exact f o x, λ row. rounds_within row.0 f want o x known row.1)
+
+pub least_table : (m : Module) → IsValid m → HasNoFloat m → (t : SummaryTable) → IsSound m t → ((f : ℕ) → f < length (func_types m) → IsFull m t f)
+    → IsLeastTable m t
+least_table m valid integer t sound full W exact f o x known =
+    least_wanted m valid integer t sound (λ h. Unit {0}) (λ h k want calls fn. tt) (λ h lt want. full h lt) W exact f o x tt known
+
+-- ---- from one function on
+
+after_calls : (m : Module) (f g h : ℕ) → Reached m f g → CallsFunc m g h → Reached m f h
+after_calls m f _ h itself calls = after_call h calls itself
+after_calls m f g h (after_call k first rest) calls = after_call k first (after_calls m k g h rest calls)
+
+-- whom calls lead to others from is there where these are
+pub reached_there : (m : Module) (f g : ℕ) → Reached m f g → IsFunction m g → IsFunction m f
+reached_there m f _ itself fn = fn
+reached_there m f g (after_call k first rest) fn = calls_below m f k first
+
+-- where calls lead to another function
+pub led_elsewhere : (m : Module) (f g : ℕ) → (g ≡ f → ⊥) → Reached m f g ↔ CallsLead m f g
+led_elsewhere m f g other = (go f other, λ (h, (calls, rest)). after_call h calls rest)
+  where
+    go : (k : ℕ) → (g ≡ k → ⊥) → Reached m k g → CallsLead m k g
+    go _ other itself = absurd (other refl)
+    go k other (after_call h calls rest) = (h, (calls, rest))
+
+-- the functions that calls lead to, by marks
+pub least_from : (m : Module) → IsValid m → HasNoFloat m → (t : SummaryTable) → IsSound m t → (root : ℕ) (marks : List Bool)
+    → ((f : ℕ) → f < length (func_types m) → IsMarked marks f ↔ CallsLead m root f) → ((f : ℕ) → f < length (func_types m) → IsMarked marks f → IsFull m t f)
+    → IsLeastFrom m root t
+least_from m valid integer t sound root marks exact full W cover f o x fn leads known =
+    least_wanted m valid integer t sound (CallsLead m root) (λ g h here calls there. (here.0, (here.1.0, after_calls m here.0 g h here.1.1 calls)))
+    (λ g lt here. full g lt ((exact g lt).1 here)) W cover f o x leads known

@@ -7,6 +7,7 @@ use Rattle.wasm_types.specs.Spaces.{globals_of}
 use Rattle.wasm_types.specs.Subset.{IsSealed}
 use Rattle.worklist.specs.Search.{IsMarked}
 use Rattle.flow_domain.specs.Bounds.{Cover, bounds}
+use Rattle.flow_domain.specs.Reach.{CallsFunc}
 use Rattle.flow_domain.specs.Rows.{Output, AnyRound, LedTo}
 use Rattle.flow_domain.specs.Summaries.{IsKnown, IsTableOf, TableRows}
 use Rattle.flow_domain.specs.Touch.{IsExact}
@@ -23,10 +24,15 @@ pub record IsSound (m : Module) (t : SummaryTable) : Type 0 where
 pub record IsFull (m : Module) (t : SummaryTable) (f : ℕ) : Type 0 where
   pub has : (W : Cover) → IsExact m W → (o : Output) (x : Loc) → IsKnown (length (globals_of m)) o → LedTo (TableRows t) (bounds m W) f o x → TableRows t f o x
 
--- functions that may not be full are marked
-pub record IsSettled (m : Module) (t : SummaryTable) (marks : List Bool) : Type 0 where
+-- wanted functions that may not be full are marked
+pub record IsSettled (m : Module) (t : SummaryTable) (wanted marks : List Bool) : Type 0 where
   pub long : length marks ≡ length t.rows.items
-  pub either : (f : ℕ) → IsFunction m f → IsFull m t f ⊎ IsMarked marks f
+  pub wanted_long : length wanted ≡ length t.rows.items
+  pub either : (f : ℕ) → IsFunction m f → IsMarked wanted f → IsFull m t f ⊎ IsMarked marks f
+
+-- what wanted functions call is wanted
+abbrev pub IsClosed : Module → (ℕ → Type 0) → Type 0
+IsClosed m Wanted = (f h : ℕ) → Wanted f → CallsFunc m f h → IsFunction m h → Wanted h
 
 -- A table to which one more round adds nothing, and all of whose rows are rows of rounds, is the least.
 abbrev pub SettledIsLeast : Type 0

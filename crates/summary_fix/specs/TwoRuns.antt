@@ -5,6 +5,7 @@ use Rattle.wasm_types.specs.declared.module.Module.{Module}
 use Rattle.wasm_types.specs.declared.place.Loc.{Loc}
 use Rattle.wasm_types.specs.declared.run.Event.{Event}
 use Rattle.wasm_types.specs.declared.module.FuncType.{FuncType}
+use Rattle.wasm_types.specs.Hosts.{IsFunction}
 use Rattle.wasm_types.specs.Spaces.{globals_of, type_of_func}
 use Rattle.wasm_types.specs.Subset.{HasNoFloat}
 use Rattle.wasm_types.specs.Validity.{IsValid}
@@ -13,7 +14,7 @@ use Rattle.wasm_meaning.specs.Fits.{Fits}
 use Rattle.wasm_meaning.specs.Invoke.{Returns}
 use Rattle.wasm_meaning.specs.State.{State}
 use Rattle.flow_domain.specs.Bounds.{Cover, bounds}
-use Rattle.flow_domain.specs.Reach.{WritesExact}
+use Rattle.flow_domain.specs.Reach.{CallsFunc, Reached, WritesExact}
 use Rattle.flow_domain.specs.Rows.{Output, Done, IsInput, AnyRound}
 use Rattle.flow_domain.specs.Summaries.{IsKnown, TableRows}
 use Rattle.flow_domain.specs.Touch.{IsExact}
@@ -66,6 +67,16 @@ HasExactCover m = (W : Cover) × IsExact m W
 abbrev pub IsLeastTable : Module → SummaryTable → Type 0
 IsLeastTable m t =
     (W : Cover) → IsExact m W → (f : ℕ) (o : Output) (x : Loc) → IsKnown (length (globals_of m)) o → TableRows t f o x ↔ AnyRound (bounds m W) f o x
+
+-- calls lead from a function to another, and to itself only where they come back
+abbrev pub CallsLead : Module → ℕ → ℕ → Type 0
+CallsLead m root f = (g : ℕ) × (CallsFunc m root g × Reached m g f)
+
+-- the same of the functions that calls lead to from one of them
+abbrev pub IsLeastFrom : Module → ℕ → SummaryTable → Type 0
+IsLeastFrom m root t =
+    (W : Cover) → IsExact m W → (f : ℕ) (o : Output) (x : Loc) → IsFunction m f → CallsLead m root f → IsKnown (length (globals_of m)) o
+    → TableRows t f o x ↔ AnyRound (bounds m W) f o x
 
 -- no input in J is in the row of output o of function f
 abbrev pub LeavesOut : SummaryTable → ℕ → Output → (Loc → Bool) → Type 0

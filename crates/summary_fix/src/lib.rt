@@ -8,4 +8,4 @@ mod rounds;
 mod start;
 
 pub use laws::{law_settled_is_least, law_two_runs};
-pub use least::summarise;
+pub use least::{summarise, summarise_from};

@@ -110,59 +110,75 @@ fn fill(
     }
 }
 
-/// Marks each of some functions.
-fn mark_each(marks: &mut [bool], funcs: &[usize])
-    requires { All (λ f. f < length marks.old) funcs.now }
+/// Marks a function, if it is wanted.
+fn mark(marks: &mut [bool], wanted: &[bool], func: usize)
+    requires within { func < length marks.old }
+    requires wanted { length wanted.now ≡ length marks.old }
     ensures kept { (f : ℕ) → IsMarked marks.old f → IsMarked marks.new f }
-    ensures all { (f : ℕ) → Contains funcs.now f → IsMarked marks.new f }
+    ensures marked { IsMarked wanted.now func → IsMarked marks.new func }
 {
-    for func in funcs {
-        marks[*func] = true;
+    if wanted[func] {
+        marks[func] = true;
     }
 }
 
-/// Marks the functions that call another.
+/// Marks each of some functions that is wanted.
+fn mark_each(marks: &mut [bool], wanted: &[bool], funcs: &[usize])
+    requires within { All (λ f. f < length marks.old) funcs.now }
+    requires wanted { length wanted.now ≡ length marks.old }
+    ensures kept { (f : ℕ) → IsMarked marks.old f → IsMarked marks.new f }
+    ensures all { (f : ℕ) → Contains funcs.now f → IsMarked wanted.now f → IsMarked marks.new f }
+{
+    for func in funcs {
+        mark(marks, wanted, *func);
+    }
+}
+
+/// Marks the wanted functions that call another.
 fn mark_callers(
     alloc: Global,
     m: &ValidModule,
     graph: &CallGraph,
+    wanted: &[bool],
     marks: &mut [bool],
     func: usize,
 ) -> Result<(), NoMemory>
     requires graph { IsCallGraph m.now graph.now }
     requires func { IsFunction m.now func }
     requires length { (f : ℕ) → IsFunction m.now f → f < length marks.old }
+    requires wanted { length wanted.now ≡ length marks.old }
     ensures kept { (f : ℕ) → IsMarked marks.old f → IsMarked marks.new f }
-    ensures all { IfOk result (λ _. (f : ℕ) → CallsFunc m.now f func → IsMarked marks.new f) }
+    ensures all { IfOk result (λ _. (f : ℕ) → CallsFunc m.now f func → IsMarked wanted.now f → IsMarked marks.new f) }
 {
     let mut callers = Vec::new(alloc);
     graph.push_callers(func, &mut callers)?;
-    mark_each(marks, &callers);
+    mark_each(marks, wanted, &callers);
     Ok(())
 }
 
-/// Adds rows of a function until one more round adds none, and marks its callers where some are new; true where they are.
+/// Adds rows of a function until one more round adds none, and marks its wanted callers where some are new; true where they are.
 fn refresh(
     alloc: Global,
     m: &ValidModule,
     graph: &CallGraph,
     table: &mut SummaryTable,
+    wanted: &[bool],
     marks: &mut [bool],
     func: usize,
 ) -> Result<bool, NoMemory>
     requires graph { IsCallGraph m.now graph.now }
     requires func { IsFunction m.now func }
     requires sound { IsSound m.now table.old }
-    requires settled { IsSettled m.now table.old marks.old }
+    requires settled { IsSettled m.now table.old wanted.now marks.old }
     ensures sound { IfOk result (λ _. IsSound m.now table.new) }
-    ensures settled { IfOk result (λ _. IsSettled m.now table.new marks.new) }
+    ensures settled { IfOk result (λ _. IsSettled m.now table.new wanted.now marks.new) }
     ensures room { IfOk result (λ grew. table_room table.new + (if grew then 1 else 0) ≤ table_room table.old) }
     ensures full { IfOk result (λ grew. grew ≡ false → (f : ℕ) → IsMarked marks.new f → IsMarked marks.old f × (f ≢ func)) }
 {
     marks[func] = false;
     let grew = fill(alloc, m, graph, table, func as u32)?;
     if grew {
-        mark_callers(alloc, m, graph, marks, func)?;
+        mark_callers(alloc, m, graph, wanted, marks, func)?;
     }
     Ok(grew)
 }
@@ -173,22 +189,23 @@ fn pass(
     m: &ValidModule,
     graph: &CallGraph,
     table: &mut SummaryTable,
+    wanted: &[bool],
     marks: &mut [bool],
     order: &[usize],
 ) -> Result<bool, NoMemory>
     requires graph { IsCallGraph m.now graph.now }
     requires order { All (λ f. IsFunction m.now f) order.now }
     requires sound { IsSound m.now table.old }
-    requires settled { IsSettled m.now table.old marks.old }
+    requires settled { IsSettled m.now table.old wanted.now marks.old }
     ensures sound { IfOk result (λ _. IsSound m.now table.new) }
-    ensures settled { IfOk result (λ _. IsSettled m.now table.new marks.new) }
+    ensures settled { IfOk result (λ _. IsSettled m.now table.new wanted.now marks.new) }
     ensures room { IfOk result (λ grew. table_room table.new + (if grew then 1 else 0) ≤ table_room table.old) }
     ensures full { IfOk result (λ grew. grew ≡ false → (f : ℕ) → Contains order.now f → IsMarked marks.new f → ⊥) }
 {
     let mut grew = false;
     for func in order {
         if marks[*func] {
-            if refresh(alloc, m, graph, table, marks, *func)? {
+            if refresh(alloc, m, graph, table, wanted, marks, *func)? {
                 grew = true;
             }
         }
@@ -196,22 +213,25 @@ fn pass(
     Ok(grew)
 }
 
-/// Adds rows to those of functions until no round adds any, callees best first. Only functions that call one whose rows grew are taken up again. It
-/// fails only where memory is refused.
+/// Adds rows to those of wanted functions until no round adds any, callees first where no cycle leads back. Only functions that call one whose rows
+/// grew are taken up again. It fails only where memory is refused.
 pub(crate) fn settle(
     alloc: Global,
     m: &ValidModule,
     graph: &CallGraph,
     table: &mut SummaryTable,
+    wanted: &[bool],
 ) -> Result<(), NoMemory>
     requires graph { IsCallGraph m.now graph.now }
     requires sound { IsSound m.now table.old }
+    requires wanted { length wanted.now ≡ vec_len table.old.rows }
     ensures sound { IfOk result (λ _. IsSound m.now table.new) }
-    ensures full { IfOk result (λ _. (f : ℕ) → IsFunction m.now f → IsFull m.now table.new f) }
+    ensures full { IfOk result (λ _. (f : ℕ) → IsFunction m.now f → IsMarked wanted.now f → IsFull m.now table.new f) }
 {
-    let mut marks = vec![in alloc; true; table.count()].map_err(|_| NoMemory)?;
+    let mut marks = Vec::new(alloc);
+    marks.extend_from_slice(wanted).map_err(|_| NoMemory)?;
     loop {
-        let grew = pass(alloc, m, graph, table, &mut marks, graph.order())?;
+        let grew = pass(alloc, m, graph, table, wanted, &mut marks, graph.order())?;
         if !grew {
             return Ok(());
         }

@@ -21,7 +21,7 @@ use flow_domain::{Summary, SummaryTable};
 use std::alloc::Global;
 use wasm_types::{FuncType, Loc, NoMemory, ValidModule};
 
-fn push_mark(marks: &mut Vec<bool>, mark: bool) -> Result<(), NoMemory>
+pub(crate) fn push_mark(marks: &mut Vec<bool>, mark: bool) -> Result<(), NoMemory>
     ensures { IfOk result (λ _. marks.new.items ≡ marks.old.items ++ mark ∷ []) }
 {
     marks.push(mark).map_err(|_| NoMemory)?;

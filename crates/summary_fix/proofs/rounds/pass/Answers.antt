@@ -12,6 +12,7 @@ use Rattle.summary_fix.proofs.rounds.pass.Goals.{then-marks-func+in_ok-refresh+t
 pub loop-func-preserved : goal.loop-func-preserved
 loop-func-preserved c =
     let m = c.args.m.now in
+    let wanted = c.args.wanted.now in
     let order = c.args.order.now in
     let i = c.loop-func.func-index in
     let lt : i < length order = search rules in
@@ -19,8 +20,8 @@ loop-func-preserved c =
     elim c.if-marks-func.branch [
       | then-marks-func+in_ok-refresh+then-branch w ↦ record {
         sound = subst (λ (t : SummaryTable). IsSound m t) (sym w.table-is) w.in_ok-refresh.ensures.sound;
-        settled = subst (λ (t : SummaryTable). IsSettled m t c.if-marks-func.marks) (sym w.table-is)
-            (subst (λ (ms : List Bool). IsSettled m w.refresh.new.table ms) (sym w.marks-is) w.in_ok-refresh.ensures.settled);
+        settled = subst (λ (t : SummaryTable). IsSettled m t wanted c.if-marks-func.marks) (sym w.table-is)
+            (subst (λ (ms : List Bool). IsSettled m w.refresh.new.table wanted ms) (sym w.marks-is) w.in_ok-refresh.ensures.settled);
         room =
             grown_room (table_room c.args.table.now) (table_room c.loop-func.table) (table_room w.refresh.new.table) (table_room c.if-marks-func.table)
             c.loop-func.grew w.in_ok-refresh.field-0 c.if-marks-func.grew old.room w.in_ok-refresh.ensures.room w.if-branch.true (ap table_room w.table-is) w.grew-is;
@@ -28,8 +29,8 @@ loop-func-preserved c =
       }
       | then-marks-func+in_ok-refresh+else-branch w ↦ record {
         sound = subst (λ (t : SummaryTable). IsSound m t) (sym w.table-is) w.in_ok-refresh.ensures.sound;
-        settled = subst (λ (t : SummaryTable). IsSettled m t c.if-marks-func.marks) (sym w.table-is)
-            (subst (λ (ms : List Bool). IsSettled m w.refresh.new.table ms) (sym w.marks-is) w.in_ok-refresh.ensures.settled);
+        settled = subst (λ (t : SummaryTable). IsSettled m t wanted c.if-marks-func.marks) (sym w.table-is)
+            (subst (λ (ms : List Bool). IsSettled m w.refresh.new.table wanted ms) (sym w.marks-is) w.in_ok-refresh.ensures.settled);
         room =
             kept_room (table_room c.args.table.now) (table_room c.loop-func.table) (table_room w.refresh.new.table) (table_room c.if-marks-func.table)
             (cond w.in_ok-refresh.field-0 1 0) c.loop-func.grew c.if-marks-func.grew old.room w.in_ok-refresh.ensures.room (ap table_room w.table-is) w.grew-is;
@@ -38,8 +39,8 @@ loop-func-preserved c =
       }
       | else-marks-func w ↦ record {
         sound = subst (λ (t : SummaryTable). IsSound m t) (sym w.table-is) old.sound;
-        settled = subst (λ (t : SummaryTable). IsSettled m t c.if-marks-func.marks) (sym w.table-is)
-            (subst (λ (ms : List Bool). IsSettled m c.loop-func.table ms) (sym w.marks-is) old.settled);
+        settled = subst (λ (t : SummaryTable). IsSettled m t wanted c.if-marks-func.marks) (sym w.table-is)
+            (subst (λ (ms : List Bool). IsSettled m c.loop-func.table wanted ms) (sym w.marks-is) old.settled);
         room =
             kept_room (table_room c.args.table.now) (table_room c.loop-func.table) (table_room c.loop-func.table) (table_room c.if-marks-func.table) 0
             c.loop-func.grew c.if-marks-func.grew old.room (omega arith) (ap table_room w.table-is) w.grew-is;

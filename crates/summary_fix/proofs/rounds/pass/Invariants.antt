@@ -8,7 +8,7 @@ use Rattle.summary_fix.proofs.rounds.pass.Given as goal
 abbrev pub invariant-loop-func : goal.invariant-loop-func
 invariant-loop-func l = record {
   sound : IsSound l.m l.table;
-  settled : IsSettled l.m l.table l.marks;
+  settled : IsSettled l.m l.table l.wanted l.marks;
   room : table_room l.table + cond l.grew 1 0 ≤ table_room l.initial.table;
   full : l.grew ≡ false → (f : ℕ) → Contains (take l.func-index l.order) f → IsMarked l.marks f → ⊥;
 }

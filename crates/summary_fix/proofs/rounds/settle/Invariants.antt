@@ -5,7 +5,7 @@ use Rattle.summary_fix.proofs.rounds.settle.Given as goal
 abbrev pub invariant-loop-marks : goal.invariant-loop-marks
 invariant-loop-marks l = record {
   sound : IsSound l.m l.table;
-  settled : IsSettled l.m l.table l.marks.items;
+  settled : IsSettled l.m l.table l.wanted l.marks.items;
 }
 
 abbrev pub decreases-loop-marks : goal.decreases-loop-marks

@@ -20,6 +20,6 @@ returns-clause-imports c = λ lt o x known.
     λ k below. subst (λ (xs : List Bool). IsMarked xs k ↔ MayWrite m func (Global k)) (sym same)
     (c.in_ok-seen.ensures.exact k (subst (λ n. k < n) (sym c.requires.globals) below)) in
     let row = import_row m func _ (host_of_type m func kind lt typed) seen c.writes.result c.len-params.result (long ∙ c.requires.globals) c.len-params.ensures
-    globals (c.writes.ensures m c.requires.graph) o x (subst (λ n. IsKnown n o) c.requires.globals known) in
+    globals (c.writes.ensures.writes m c.requires.graph) o x (subst (λ n. IsKnown n o) c.requires.globals known) in
     let made = c.in_ok-rows-3.ensures.rows o x (subst (λ n. IsKnown n o) (sym long) known) in
     (λ h. row.0 (made.0 h), λ h. made.1 (row.1 h))

@@ -12,7 +12,7 @@ loop-global-preserved c =
     record {
       long = long_pushed marks c.push_mark.new.marks.items c.writes.result n c.in_ok-push_mark.ensures old.long;
       exact = marked_pushed (λ k. MayWrite c.args.m.now c.args.func (Global k)) marks c.push_mark.new.marks.items c.writes.result n c.in_ok-push_mark.ensures old.long
-          old.exact (c.writes.ensures c.args.m.now c.requires);
+          old.exact (c.writes.ensures.writes c.args.m.now c.requires);
     }
 
 pub returns-clause-exact : goal.returns-clause-exact
