@@ -1,3 +1,4 @@
+pub mod GapLemmas
 pub mod ListingLemmas
 pub mod NamedLemmas
 pub mod PlaceLemmas

@@ -153,3 +153,8 @@ instruction_text (instr.Num op) = operation_name op
 instruction_text instr.MemoryCopy = codes "memory.copy"
 instruction_text instr.MemoryFill = codes "memory.fill"
 instruction_text _ = []
+
+-- an instruction without the labels of a table
+abbrev pub front_text : Instr → List ℕ
+front_text (instr.BrTable labels other) = codes "br_table"
+front_text i = instruction_text i

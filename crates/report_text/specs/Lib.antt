@@ -7,3 +7,4 @@ pub mod KeptTexts
 pub mod SummaryTexts
 pub mod Placed
 pub mod Drafts
+pub mod Gaps

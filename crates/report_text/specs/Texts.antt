@@ -56,7 +56,6 @@ module_texts (of_module.Invalid p) = codes "invalid " ∷ part_text p ∷ []
 
 -- why a query about a module is refused
 abbrev pub query_texts : QueryRefusal → List (List ℕ)
-query_texts of_query.Unbuilt = codes "not built yet" ∷ []
 query_texts (of_query.NoFunction func) = codes "no function " ∷ decimal func ∷ []
 query_texts (of_query.Imported func) = codes "function " ∷ decimal func ∷ codes " is imported" ∷ []
 query_texts (of_query.NoInstruction at count) = codes "no instruction " ∷ decimal at ∷ codes ", function has " ∷ decimal count ∷ []

@@ -1,13 +1,14 @@
 //! Instructions by their names and immediates. Each function fails only where an allocation is refused.
 
-ghost use Rattle.std.specs.Prelude.{◌≡◌, ◌++◌, ◌≤◌, codes, decimal, length, OnOk};
+ghost use Rattle.std.specs.Prelude.{◌≡◌, ◌+◌, ◌++◌, ◌≤◌, decimal, length, OnOk};
 ghost use Rattle.std.specs.Fmt.{signed_decimal};
 ghost use Rattle.report_text.specs.Drafts.{written};
 ghost use Rattle.report_text.specs.InstructionTexts as texts;
-ghost use Rattle.report_text.specs.InstructionTexts.{instruction_text, number_after, numbers_after, operation_name};
+ghost use Rattle.report_text.specs.InstructionTexts.{front_text, instruction_text, number_after, numbers_after, operation_name};
+ghost use Rattle.report_text.specs.Placed.{Placed};
 
 use crate::draft::Draft;
-use crate::place::{MOST_DIGITS, MOST_SIGNED, place_byte, place_number, place_signed, place_text};
+use crate::place::{MOST_DIGITS, place_byte, place_number, place_signed, place_text};
 use std::alloc::AllocError;
 use wasm_types::{
     BinOp, Instr, LoadOp, LowOp, MemArg, NumOp, RelOp, StoreOp, UnOp, ValType, Width,
@@ -163,14 +164,23 @@ pub(crate) fn push_number(out: &mut Draft, number: u32) -> Result<(), AllocError
     Ok(())
 }
 
+/// A space and a number.
+#[inline(always)]
+fn place_number_after(buf: &mut [u8], at: usize, number: u32) -> usize
+    requires { at + 11 ≤ length buf.old }
+    ensures placed { Placed buf.old buf.new at (number_after number) result }
+    ensures short { result ≤ at + 11 }
+{
+    let behind = place_byte(buf, at, b' ');
+    place_number(buf, behind, number)
+}
+
 /// Adds a space and a number.
-#[inline]
-pub(crate) fn push_number_after(out: &mut Draft, number: u32) -> Result<(), AllocError>
+fn push_number_after(out: &mut Draft, number: u32) -> Result<(), AllocError>
     ensures { OnOk result (written out.new ≡ written out.old ++ number_after number) }
 {
     out.reserve(1 + MOST_DIGITS)?;
-    let at = place_byte(out.bytes.as_mut_slice(), out.len, b' ');
-    out.len = place_number(out.bytes.as_mut_slice(), at, number);
+    out.len = place_number_after(out.bytes.as_mut_slice(), out.len, number);
     Ok(())
 }
 
@@ -184,37 +194,46 @@ fn push_numbers_after(out: &mut Draft, numbers: &[u32]) -> Result<(), AllocError
     Ok(())
 }
 
-/// Adds the name of an operation of a width.
-fn push_of_width(out: &mut Draft, width: Width, name: &str) -> Result<(), AllocError>
-    ensures { OnOk result (written out.new ≡ written out.old ++ (texts.width_prefix width ++ name.now)) }
+/// The name of an operation of a width.
+#[inline(always)]
+fn place_of_width(buf: &mut [u8], at: usize, width: Width, name: &str) -> usize
+    requires room { at + 32 ≤ length buf.old }
+    requires short { length name.now ≤ 16 }
+    ensures placed { Placed buf.old buf.new at (texts.width_prefix width ++ name.now) result }
+    ensures short { result ≤ at + 32 }
 {
-    push_text(out, width_prefix(width))?;
-    push_text(out, name)
+    let behind = place_text(buf, at, width_prefix(width).as_bytes());
+    place_text(buf, behind, name.as_bytes())
 }
 
-/// Adds the name of an operation on integers.
-fn push_operation(out: &mut Draft, op: NumOp) -> Result<(), AllocError>
-    ensures { OnOk result (written out.new ≡ written out.old ++ operation_name op) }
+/// The name of an operation on integers.
+fn place_operation(buf: &mut [u8], at: usize, op: NumOp) -> usize
+    requires room { at + 32 ≤ length buf.old }
+    ensures placed { Placed buf.old buf.new at (operation_name op) result }
+    ensures short { result ≤ at + 32 }
 {
     match op {
-        NumOp::Eqz(width) => push_of_width(out, width, "eqz"),
-        NumOp::Rel(width, op) => push_of_width(out, width, relation_name(op)),
-        NumOp::Un(width, op) => push_of_width(out, width, unary_name(op)),
-        NumOp::Bin(width, op) => push_of_width(out, width, binary_name(op)),
-        NumOp::Wrap => push_text(out, "i32.wrap_i64"),
-        NumOp::ExtendS => push_text(out, "i64.extend_i32_s"),
-        NumOp::ExtendU => push_text(out, "i64.extend_i32_u"),
-        NumOp::Low(op) => push_text(out, extension_name(op)),
+        NumOp::Eqz(width) => place_of_width(buf, at, width, "eqz"),
+        NumOp::Rel(width, op) => place_of_width(buf, at, width, relation_name(op)),
+        NumOp::Un(width, op) => place_of_width(buf, at, width, unary_name(op)),
+        NumOp::Bin(width, op) => place_of_width(buf, at, width, binary_name(op)),
+        NumOp::Wrap => place_text(buf, at, b"i32.wrap_i64"),
+        NumOp::ExtendS => place_text(buf, at, b"i64.extend_i32_s"),
+        NumOp::ExtendU => place_text(buf, at, b"i64.extend_i32_u"),
+        NumOp::Low(op) => place_text(buf, at, extension_name(op).as_bytes()),
     }
 }
 
-/// Adds the name of a load or a store, its alignment exponent and its offset.
-fn push_access(out: &mut Draft, name: &str, place: MemArg) -> Result<(), AllocError>
-    ensures { OnOk result (written out.new ≡ written out.old ++ (name.now ++ (number_after place.align ++ number_after place.offset))) }
+/// The name of a load or a store, its alignment exponent and its offset.
+fn place_access(buf: &mut [u8], at: usize, name: &str, place: MemArg) -> usize
+    requires room { at + 38 ≤ length buf.old }
+    requires short { length name.now ≤ 16 }
+    ensures placed { Placed buf.old buf.new at (name.now ++ (number_after place.align ++ number_after place.offset)) result }
+    ensures short { result ≤ at + 38 }
 {
-    push_text(out, name)?;
-    push_number_after(out, place.align)?;
-    push_number_after(out, place.offset)
+    let named = place_text(buf, at, name.as_bytes());
+    let aligned = place_number_after(buf, named, place.align);
+    place_number_after(buf, aligned, place.offset)
 }
 
 /// Adds a name, and the type of a block, loop or if where it has a result.
@@ -233,66 +252,91 @@ pub(crate) fn push_block(
     push_text(out, type_name(kind))
 }
 
-/// Adds a name, a space and a number.
-#[inline]
-fn push_named(out: &mut Draft, name: &str, number: u32) -> Result<(), AllocError>
-    ensures { OnOk result (written out.new ≡ written out.old ++ (name.now ++ number_after number)) }
+/// A name, a space and a number.
+#[inline(always)]
+fn place_named(buf: &mut [u8], at: usize, name: &str, number: u32) -> usize
+    requires room { at + 27 ≤ length buf.old }
+    requires short { length name.now ≤ 16 }
+    ensures placed { Placed buf.old buf.new at (name.now ++ number_after number) result }
+    ensures short { result ≤ at + 27 }
 {
-    push_text(out, name)?;
-    push_number_after(out, number)
+    let behind = place_text(buf, at, name.as_bytes());
+    place_number_after(buf, behind, number)
 }
 
-/// Adds a table of labels and its default.
+/// Adds the labels of a table and its default.
+#[cold]
+#[inline(never)]
 fn push_table(out: &mut Draft, labels: &[u32], other: u32) -> Result<(), AllocError>
-    ensures { OnOk result (written out.new ≡ written out.old ++ (codes "br_table" ++ (numbers_after labels.now ++ number_after other))) }
+    ensures { OnOk result (written out.new ≡ written out.old ++ (numbers_after labels.now ++ number_after other)) }
 {
-    push_text(out, "br_table")?;
     push_numbers_after(out, labels)?;
     push_number_after(out, other)
 }
 
-/// Adds a name and a number with its sign.
-fn push_constant(out: &mut Draft, name: &str, number: i64) -> Result<(), AllocError>
-    ensures { OnOk result (written out.new ≡ written out.old ++ (name.now ++ signed_decimal number)) }
+/// A name and a number with its sign.
+fn place_constant(buf: &mut [u8], at: usize, name: &str, number: i64) -> usize
+    requires room { at + 36 ≤ length buf.old }
+    requires short { length name.now ≤ 16 }
+    ensures placed { Placed buf.old buf.new at (name.now ++ signed_decimal number) result }
+    ensures short { result ≤ at + 36 }
 {
-    push_text(out, name)?;
-    out.reserve(MOST_SIGNED)?;
-    out.len = place_signed(out.bytes.as_mut_slice(), out.len, number);
-    Ok(())
+    let behind = place_text(buf, at, name.as_bytes());
+    place_signed(buf, behind, number)
+}
+
+/// The most bytes of an instruction without the labels of a table.
+const MOST_WORDS: usize = 38;
+
+/// An instruction that holds no others and is none on floats: its name, and its immediates, each after a space, but for the labels of
+/// a table.
+#[inline(always)]
+fn place_instruction(buf: &mut [u8], at: usize, instr: &Instr) -> usize
+    requires { at + 38 ≤ length buf.old }
+    ensures placed { Placed buf.old buf.new at (front_text instr.now) result }
+    ensures short { result ≤ at + 38 }
+{
+    match instr {
+        Instr::Unreachable => place_text(buf, at, b"unreachable"),
+        Instr::Nop => place_text(buf, at, b"nop"),
+        Instr::Drop => place_text(buf, at, b"drop"),
+        Instr::Select => place_text(buf, at, b"select"),
+        Instr::Return => place_text(buf, at, b"return"),
+        Instr::Block(_, _) => at,
+        Instr::Loop(_, _) => at,
+        Instr::If(_, _, _) => at,
+        Instr::Br(label) => place_named(buf, at, "br", *label),
+        Instr::BrIf(label) => place_named(buf, at, "br_if", *label),
+        Instr::BrTable(_, _) => place_text(buf, at, b"br_table"),
+        Instr::Call(func) => place_named(buf, at, "call", *func),
+        Instr::CallIndirect(kind) => place_named(buf, at, "call_indirect", *kind),
+        Instr::LocalGet(local) => place_named(buf, at, "local.get", *local),
+        Instr::LocalSet(local) => place_named(buf, at, "local.set", *local),
+        Instr::LocalTee(local) => place_named(buf, at, "local.tee", *local),
+        Instr::GlobalGet(global) => place_named(buf, at, "global.get", *global),
+        Instr::GlobalSet(global) => place_named(buf, at, "global.set", *global),
+        Instr::Load(op, place) => place_access(buf, at, load_name(*op), *place),
+        Instr::Store(op, place) => place_access(buf, at, store_name(*op), *place),
+        Instr::MemorySize => place_text(buf, at, b"memory.size"),
+        Instr::MemoryGrow => place_text(buf, at, b"memory.grow"),
+        Instr::I32Const(n) => place_constant(buf, at, "i32.const ", i64::from(n.cast_signed())),
+        Instr::I64Const(n) => place_constant(buf, at, "i64.const ", n.cast_signed()),
+        Instr::Num(op) => place_operation(buf, at, *op),
+        Instr::Float(_) => at,
+        Instr::MemoryCopy => place_text(buf, at, b"memory.copy"),
+        Instr::MemoryFill => place_text(buf, at, b"memory.fill"),
+    }
 }
 
 /// Adds an instruction that holds no others and is none on floats: its name, and its immediates, each after a space.
+#[inline(always)]
 pub(crate) fn push_instruction(out: &mut Draft, instr: &Instr) -> Result<(), AllocError>
     ensures { OnOk result (written out.new ≡ written out.old ++ instruction_text instr.now) }
 {
+    out.reserve(MOST_WORDS)?;
+    out.len = place_instruction(out.bytes.as_mut_slice(), out.len, instr);
     match instr {
-        Instr::Unreachable => push_text(out, "unreachable"),
-        Instr::Nop => push_text(out, "nop"),
-        Instr::Drop => push_text(out, "drop"),
-        Instr::Select => push_text(out, "select"),
-        Instr::Return => push_text(out, "return"),
-        Instr::Block(_, _) => Ok(()),
-        Instr::Loop(_, _) => Ok(()),
-        Instr::If(_, _, _) => Ok(()),
-        Instr::Br(label) => push_named(out, "br", *label),
-        Instr::BrIf(label) => push_named(out, "br_if", *label),
         Instr::BrTable(labels, other) => push_table(out, labels.as_slice(), *other),
-        Instr::Call(func) => push_named(out, "call", *func),
-        Instr::CallIndirect(kind) => push_named(out, "call_indirect", *kind),
-        Instr::LocalGet(local) => push_named(out, "local.get", *local),
-        Instr::LocalSet(local) => push_named(out, "local.set", *local),
-        Instr::LocalTee(local) => push_named(out, "local.tee", *local),
-        Instr::GlobalGet(global) => push_named(out, "global.get", *global),
-        Instr::GlobalSet(global) => push_named(out, "global.set", *global),
-        Instr::Load(op, place) => push_access(out, load_name(*op), *place),
-        Instr::Store(op, place) => push_access(out, store_name(*op), *place),
-        Instr::MemorySize => push_text(out, "memory.size"),
-        Instr::MemoryGrow => push_text(out, "memory.grow"),
-        Instr::I32Const(n) => push_constant(out, "i32.const ", i64::from(n.cast_signed())),
-        Instr::I64Const(n) => push_constant(out, "i64.const ", n.cast_signed()),
-        Instr::Num(op) => push_operation(out, *op),
-        Instr::Float(_) => Ok(()),
-        Instr::MemoryCopy => push_text(out, "memory.copy"),
-        Instr::MemoryFill => push_text(out, "memory.fill"),
+        _ => Ok(()),
     }
 }

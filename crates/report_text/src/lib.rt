@@ -3,9 +3,11 @@
 
 mod draft;
 mod front;
+mod gaps;
 mod instruction;
 mod kept;
 mod listing;
+mod page;
 mod place;
 mod refusal;
 mod room;
@@ -13,6 +15,7 @@ mod run;
 mod summary;
 mod text;
 
+pub use gaps::{Rest, Spaced};
 pub use kept::kept_text;
 pub use listing::list_text;
 pub use refusal::{ModuleRefusal, QueryRefusal, Refusal};

@@ -11,9 +11,6 @@ use std::simd::Simd;
 /// The most digits of a number below 2^32.
 pub(crate) const MOST_DIGITS: usize = 10;
 
-/// The most bytes of a number of 64 bits with its sign.
-pub(crate) const MOST_SIGNED: usize = 20;
-
 /// One byte.
 #[inline(always)]
 pub(crate) fn place_byte(buf: &mut [u8], at: usize, byte: u8) -> usize
@@ -26,7 +23,7 @@ pub(crate) fn place_byte(buf: &mut [u8], at: usize, byte: u8) -> usize
 
 /// So many spaces. None takes no call.
 #[inline(always)]
-fn place_spaces(buf: &mut [u8], at: usize, count: usize) -> usize
+pub(crate) fn place_spaces(buf: &mut [u8], at: usize, count: usize) -> usize
     requires { at + count ≤ length buf.old }
     ensures { Placed buf.old buf.new at (replicate count 32) result }
 {
@@ -135,6 +132,9 @@ fn place_digits(buf: &mut [u8], at: usize, number: u64) -> usize
     requires { at + length (decimal number) ≤ length buf.old }
     ensures { Placed buf.old buf.new at (decimal number) result }
 {
+    if number < 10 {
+        return place_byte(buf, at, b'0' + number as u8);
+    }
     let end = at + digit_count(number);
     let _start = write_digits(number, buf, end);
     end
@@ -153,7 +153,8 @@ pub(crate) fn place_number(buf: &mut [u8], at: usize, number: u32) -> usize
 /// A number with its sign, where it is below zero.
 pub(crate) fn place_signed(buf: &mut [u8], at: usize, number: i64) -> usize
     requires { at + 20 ≤ length buf.old }
-    ensures { Placed buf.old buf.new at (signed_decimal number) result }
+    ensures placed { Placed buf.old buf.new at (signed_decimal number) result }
+    ensures short { result ≤ at + 20 }
 {
     let size = number.unsigned_abs();
     if number >= 0 {

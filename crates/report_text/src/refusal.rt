@@ -57,8 +57,6 @@ pub enum ModuleRefusal {
 /// Why a query about a module is refused, in the order in which the causes are tested.
 #[derive(Clone, Copy, Debug, PartialEq, Eq)]
 pub enum QueryRefusal {
-    /// The module can't be sliced yet.
-    Unbuilt,
     /// The module has no function of this number.
     NoFunction { func: u32 },
     /// The function is imported: it has no body.

@@ -78,7 +78,6 @@ fn query_end(alloc: Global, cause: QueryRefusal) -> Result<String, AllocError>
     ensures { IfOk result (λ text. string_bytes text ≡ line_of (query_texts cause)) }
 {
     match cause {
-        QueryRefusal::Unbuilt => format!(in alloc; "not built yet\n"),
         QueryRefusal::NoFunction { func } => format!(in alloc; "no function {func}\n"),
         QueryRefusal::Imported { func } => format!(in alloc; "function {func} is imported\n"),
         QueryRefusal::NoInstruction { at, count } => {
