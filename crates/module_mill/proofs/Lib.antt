@@ -1,0 +1,2 @@
+pub mod Milled
+mod Worked
