@@ -99,6 +99,42 @@ const LOOPS_OUT: &[u8] =
 const LOOPS_OUT_12: &[u8] =
     b"\0asm\x01\0\0\0\x01\x05\x01\x60\x01\x7F\x00\x03\x03\x02\x00\x00\x07\x05\x01\x01\x73\x00\x01\x0A\x53\x02\x28\x01\x01\x7F\x02\x40\x03\x40\x20\x00\x45\x0D\x01\x02\x40\x03\x40\x20\x01\x0D\x03\x41\x01\x21\x01\x0C\x00\x0B\x0B\x20\x00\x41\x01\x6B\x21\x00\x0C\x00\x0B\x0B\x0B\x28\x01\x01\x7F\x02\x40\x03\x40\x20\x00\x45\x0D\x01\x02\x40\x03\x40\x20\x01\x0D\x03\x41\x01\x21\x01\x0C\x00\x0B\x0B\x20\x00\x41\x01\x6B\x21\x00\x0C\x00\x0B\x0B\x0B";
 
+// With the slice of RECURSIVE at 8, which is the whole body: it calls function 0.
+const RECURSIVE_8: &[u8] =
+    b"\0asm\x01\0\0\0\x01\x06\x01\x60\x01\x7F\x01\x7F\x03\x03\x02\x00\x00\x07\x05\x01\x01\x73\x00\x01\x0A\x2B\x02\x14\x00\x20\x00\x04\x7F\x20\x00\x41\x01\x6B\x10\x00\x05\x41\x00\x0B\x41\x01\x6A\x0B\x14\x00\x20\x00\x04\x7F\x20\x00\x41\x01\x6B\x10\x00\x05\x41\x00\x0B\x41\x01\x6A\x0B";
+
+// Function 0 `(i32 i32) -> i32`: `local.get 0`; function 1 `(i32) -> i32`: `local.get 0; i32.const 6; i32.const 7; i32.mul; call 0; i32.const 1; i32.add`.
+const FEW_ARGUMENTS: &[u8] =
+    b"\0asm\x01\0\0\0\x01\x0C\x02\x60\x02\x7F\x7F\x01\x7F\x60\x01\x7F\x01\x7F\x03\x03\x02\x00\x01\x0A\x15\x02\x04\x00\x20\x00\x0B\x0E\x00\x20\x00\x41\x06\x41\x07\x6C\x10\x00\x41\x01\x6A\x0B";
+
+// With the slice of function 1 at 6: `local.get 0; i32.const 0; call 0; i32.const 1; i32.add`.
+const FEW_ARGUMENTS_6: &[u8] =
+    b"\0asm\x01\0\0\0\x01\x0C\x02\x60\x02\x7F\x7F\x01\x7F\x60\x01\x7F\x01\x7F\x03\x04\x03\x00\x01\x01\x07\x05\x01\x01\x73\x00\x02\x0A\x21\x03\x04\x00\x20\x00\x0B\x0E\x00\x20\x00\x41\x06\x41\x07\x6C\x10\x00\x41\x01\x6A\x0B\x0B\x00\x20\x00\x41\x00\x10\x00\x41\x01\x6A\x0B";
+
+// The same with `local.get 0; local.get 1; i32.div_u; drop; local.get 0` as function 0.
+const MAY_TRAP: &[u8] =
+    b"\0asm\x01\0\0\0\x01\x0C\x02\x60\x02\x7F\x7F\x01\x7F\x60\x01\x7F\x01\x7F\x03\x03\x02\x00\x01\x0A\x1B\x02\x0A\x00\x20\x00\x20\x01\x6E\x1A\x20\x00\x0B\x0E\x00\x20\x00\x41\x06\x41\x07\x6C\x10\x00\x41\x01\x6A\x0B";
+
+// A mutable global; function 0 `() -> i32`: `i32.const 3; global.set 0; i32.const 4`; function 1 `() -> i32`: `call 0; drop; global.get 0`.
+const WRITES: &[u8] =
+    b"\0asm\x01\0\0\0\x01\x05\x01\x60\x00\x01\x7F\x03\x03\x02\x00\x00\x06\x06\x01\x7F\x01\x41\x00\x0B\x0A\x12\x02\x08\x00\x41\x03\x24\x00\x41\x04\x0B\x07\x00\x10\x00\x1A\x23\x00\x0B";
+
+// With the slice of function 1 at 2: `call 0; drop; global.get 0`.
+const WRITES_2: &[u8] =
+    b"\0asm\x01\0\0\0\x01\x05\x01\x60\x00\x01\x7F\x03\x04\x03\x00\x00\x00\x06\x06\x01\x7F\x01\x41\x00\x0B\x07\x05\x01\x01\x73\x00\x02\x0A\x1A\x03\x08\x00\x41\x03\x24\x00\x41\x04\x0B\x07\x00\x10\x00\x1A\x23\x00\x0B\x07\x00\x10\x00\x1A\x23\x00\x0B";
+
+// Function 0 `() -> i32`: `i32.const 42`; function 1 `(i32) -> i32`: `local.get 0; call_indirect 0`; a table of 3 with functions 0 and 1 at 0.
+const THROUGH: &[u8] =
+    b"\0asm\x01\0\0\0\x01\x0A\x02\x60\x00\x01\x7F\x60\x01\x7F\x01\x7F\x03\x03\x02\x00\x01\x04\x04\x01\x70\x00\x03\x09\x08\x01\x00\x41\x00\x0B\x02\x00\x01\x0A\x0E\x02\x04\x00\x41\x2A\x0B\x07\x00\x20\x00\x11\x00\x00\x0B";
+
+// With the slice of function 1 at 1.
+const THROUGH_1: &[u8] =
+    b"\0asm\x01\0\0\0\x01\x0A\x02\x60\x00\x01\x7F\x60\x01\x7F\x01\x7F\x03\x04\x03\x00\x01\x01\x04\x04\x01\x70\x00\x03\x07\x05\x01\x01\x73\x00\x02\x09\x08\x01\x00\x41\x00\x0B\x02\x00\x01\x0A\x16\x03\x04\x00\x41\x2A\x0B\x07\x00\x20\x00\x11\x00\x00\x0B\x07\x00\x20\x00\x11\x00\x00\x0B";
+
+// HOST with the memory exported as `m`.
+const HOST_SEES: &[u8] =
+    b"\0asm\x01\0\0\0\x01\x05\x01\x60\x00\x01\x7F\x02\x09\x01\x03\x65\x6E\x76\x01\x68\x00\x00\x03\x02\x01\x00\x05\x03\x01\x00\x01\x07\x05\x01\x01\x6D\x02\x00\x0A\x0D\x01\x0B\x00\x41\x00\x41\x05\x36\x02\x00\x10\x00\x0B";
+
 const KEPT: &[Row] = &[
     ("kept 0 0", ADD, 0, b"0\n", ""),
     ("kept 0 4", LEFT_BY_TRAP, 0, b"4\n", ""),
@@ -122,12 +158,19 @@ const KEPT: &[Row] = &[
         "",
     ),
     (
-        "kept 1 3",
-        HOST,
-        6,
-        b"",
-        "wassail: query refused: not built yet\n",
+        "kept 0 8",
+        RECURSIVE,
+        0,
+        b"0\n1\nj1\n2\n3\n4\n5\n6\n7\n8\n",
+        "",
     ),
+    ("kept 1 6", FEW_ARGUMENTS, 0, b"0\n4\n5\n6\n", ""),
+    ("kept 1 6", MAY_TRAP, 0, b"0\n1\n2\n3\n4\n5\n6\n", ""),
+    ("kept 1 2", WRITES, 0, b"0\n2\n", ""),
+    ("kept 1 1", THROUGH, 0, b"0\n1\n", ""),
+    // What the host doesn't see isn't kept for it.
+    ("kept 1 3", HOST, 0, b"3\n", ""),
+    ("kept 1 3", HOST_SEES, 0, b"0\n1\n2\n3\n", ""),
     (
         "kept 0 2",
         RETURNING,
@@ -218,10 +261,38 @@ const SLICES: &[Row] = &[
         LOOPS_OUT_12,
         "function 1 instruction 12\n",
     ),
+    (
+        "slice 0 8 s",
+        RECURSIVE,
+        0,
+        RECURSIVE_8,
+        "function 1 instruction 8\n",
+    ),
+    (
+        "slice 1 6 s",
+        FEW_ARGUMENTS,
+        0,
+        FEW_ARGUMENTS_6,
+        "function 2 instruction 4\n",
+    ),
+    (
+        "slice 1 2 s",
+        WRITES,
+        0,
+        WRITES_2,
+        "function 2 instruction 2\n",
+    ),
+    (
+        "slice 1 1 s",
+        THROUGH,
+        0,
+        THROUGH_1,
+        "function 2 instruction 1\n",
+    ),
 ];
 
 #[test]
-fn slices_functions_that_call_nothing(rt: HostRuntime) -> Result<(), Fail> {
+fn slices_functions(rt: HostRuntime) -> Result<(), Fail> {
     assert_eq!(rt; first_wrong(&rt, SLICES)?, None);
     Ok(())
 }
@@ -262,20 +333,6 @@ const NOT_SLICED: &[Row] = &[
         b"",
         "wassail: query refused: export name taken\n",
     ),
-    (
-        "slice 0 8 s",
-        RECURSIVE,
-        6,
-        b"",
-        "wassail: query refused: not built yet\n",
-    ),
-    (
-        "slice 1 3 s",
-        HOST,
-        6,
-        b"",
-        "wassail: query refused: not built yet\n",
-    ),
 ];
 
 #[test]
@@ -300,6 +357,20 @@ const TRACED: &[Row] = &[
         "",
     ),
     ("trace 0 12 100 2", LOOPS_OUT, 0, b"returned\nturns 1\n", ""),
+    (
+        "trace 0 8 10 3",
+        RECURSIVE,
+        0,
+        b"take 3 1\nleave 4\nreturned 4\nturns 3\n",
+        "",
+    ),
+    (
+        "trace 1 8 10 3",
+        RECURSIVE_8,
+        0,
+        b"take 3 1\nleave 4\nreturned 4\nturns 3\n",
+        "",
+    ),
 ];
 
 #[test]

@@ -1,19 +1,17 @@
--- Slices follow their originals, where nothing is called: their kept sets are closed.
+-- Slices follow their originals.
 use Rattle.std.proofs.Common.{length, [], ◌∷◌}
 use Rattle.wasm_types.specs.declared.module.Module.{Module}
 use Rattle.wasm_types.specs.Validity.{IsValid}
 use Rattle.wasm_types.specs.Subset.{HasNoFloat}
 use Rattle.wasm_types.specs.Actions.{callees}
 use Rattle.wasm_types.specs.Funcs.{unwatched}
-use Rattle.flow_domain.specs.Sliced.{context_of, sites_at}
-use Rattle.flow_domain.proofs.KeptLaws.{closed}
+use Rattle.flow_domain.specs.Sliced.{context_of}
 use Rattle.flow_laws.specs.Calls.{HasHeights, AnyInstr}
-use Rattle.flow_laws.proofs.CallFree.{sliced_returns}
+use Rattle.flow_laws.proofs.KeptServes.{slice_for_returns}
 use Rattle.stack_repair.specs.Law.{HasTypes}
 use Rattle.stack_repair.proofs.Bodies.{valid_has_heights}
 use Rattle.stack_repair.proofs.Heights.{shaped_weaker}
 use Rattle.slice_whole.specs.Law.{SliceFollows}
-use Rattle.slice_whole.proofs.LiveCalls.{silent_calls}
 
 heights : (m : Module) → IsValid m → HasNoFloat m → HasHeights m
 heights m valid integer f t b is has =
@@ -21,6 +19,4 @@ heights m valid integer f t b is has =
     (valid_has_heights m t b (record { valid = valid; no_float = integer; func = f; kind_is = is; has_body = has }) unwatched)
 
 pub slice_follows : SliceFollows
-slice_follows m valid integer f i name new at sl silent =
-    sliced_returns m valid (heights m valid integer) f i name new at sl (silent_calls (callees m) (sites_at (callees m) sl.kind sl.body i) silent)
-    (closed (callees m) _ _ _ _ sl.kept sl.exact)
+slice_follows m valid integer f i name new at sl = slice_for_returns m valid (heights m valid integer) f i name new at sl

@@ -1,7 +1,11 @@
-pub mod LiveCalls
 pub mod Follows
+pub mod KeptRows
 pub mod Made
+pub mod NotRefuted
+pub mod OneCover
 pub mod OneSliced
 pub mod Refused
+pub mod SomeCover
 pub mod SomeSets
 pub mod SomeSliced
+pub mod Tested

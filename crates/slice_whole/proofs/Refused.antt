@@ -1,7 +1,6 @@
 -- The causes against a slice, one after another.
-use Rattle.std.proofs.Common.{◌≡◌, ℕ, zero, suc, ◌+◌, ◌-◌, ◌≤◌, ◌<◌, ◌^◌, List, [], ◌∷◌, Bool, true, false, ◌||◌, not, Option, Some, None, length, slice_get, nat_lt, nat_eq, bytes_eq, if◌then◌else◌, refl, sym, ap, ap₂, ◌∙◌, subst, arith, length-append}
+use Rattle.std.proofs.Common.{◌≡◌, ℕ, zero, suc, ◌+◌, ◌-◌, ◌≤◌, ◌<◌, ◌^◌, List, [], ◌∷◌, Bool, true, false, ◌||◌, not, Option, Some, None, length, slice_get, nat_lt, bytes_eq, if◌then◌else◌, refl, sym, ap, ap₂, ◌∙◌, subst, arith, length-append}
 use Rattle.std.proofs.lemmas.Slice.Eq.{bytes_eq-Decides}
-use Rattle.std.proofs.lemmas.Option.{slice_get_within}
 use Rattle.wasm_types.specs.declared.module.ValType.{ValType}
 use Rattle.wasm_types.specs.declared.module.FuncType.{FuncType}
 use Rattle.wasm_types.specs.declared.module.Body.{Body}
@@ -18,14 +17,12 @@ use Rattle.wasm_types.specs.Actions.{Callees, callees}
 use Rattle.wasm_types.specs.Sites.{Site, Sites, IsSite}
 use Rattle.stack_names.specs.Named.{Named, is_live_in, listed_all}
 use Rattle.stack_names.proofs.NameLemmas.{own_body}
-use Rattle.flow_domain.specs.Sliced.{func_count, sites_at, HasExport, IsSliced}
+use Rattle.flow_domain.specs.Sliced.{func_count, sites_at, HasExport}
 use Rattle.stack_repair.proofs.Appended.{type_at}
 use Rattle.stack_repair.proofs.ExactCut.{NamedAt}
 use Rattle.slice_whole.specs.declared.slicing.SliceRefusal.{SliceRefusal}
-use Rattle.slice_whole.specs.declared.slicing.SliceRefusal.TheVariants.{NoFunction, Imported, NoInstruction, Dead, NameTaken, Unbuilt}
-use Rattle.slice_whole.specs.Calling.{calls_in}
-use Rattle.slice_whole.specs.Slices.{HasCall, or_else, why_no_code, count_in, why_no_position, why_no_site, sites_in, is_exported, why_taken, why_calls, calls_of, why_not}
-use Rattle.slice_whole.proofs.LiveCalls.{no_call}
+use Rattle.slice_whole.specs.declared.slicing.SliceRefusal.TheVariants.{NoFunction, Imported, NoInstruction, Dead, NameTaken}
+use Rattle.slice_whole.specs.Slices.{or_else, why_no_code, count_in, why_no_position, why_no_site, sites_in, is_exported, why_taken, why_not}
 
 -- ---- numbers
 
@@ -159,7 +156,7 @@ pub seen_site : (m : Module) (f i : ℕ) (F : FuncType) (b : Body) (n : Named) �
 seen_site m f i F b n h = live_there (callees m) h.named.types (sites_at (callees m) F b i) i (subst (λ z. is_live_in z i ≡ true) h.named.rows h.live)
 
 seen : (m : Module) (f i : ℕ) (name : List ℕ) (F : FuncType) (b : Body) (n : Named) (x : Option SliceRefusal) → Seen m f i F b n
-    → or_else (why_taken (is_exported m.exports name)) (why_calls (calls_of (body_of m f))) ≡ x → why_not m f i name ≡ x
+    → why_taken (is_exported m.exports name) ≡ x → why_not m f i name ≡ x
 seen m f i name F b n x h e =
     let s = seen_site m f i F b n h in
     or_none _ _ _ (own_there m f h.there (is_own m f b h.body)) (or_none _ _ _ (position_there m f i b h.body h.within)
@@ -167,15 +164,11 @@ seen m f i name F b n x h e =
 
 pub refuses_name : (m : Module) (f i : ℕ) (name : List ℕ) (F : FuncType) (b : Body) (n : Named) → Seen m f i F b n → is_exported m.exports name ≡ true
     → why_not m f i name ≡ Some NameTaken
-refuses_name m f i name F b n h e = seen m f i name F b n _ h (or_some _ _ _ (ap why_taken e))
-
-pub refuses_calls : (m : Module) (f i : ℕ) (name : List ℕ) (F : FuncType) (b : Body) (n : Named) → Seen m f i F b n → is_exported m.exports name ≡ false
-    → calls_in (code_of b.code) ≡ true → why_not m f i name ≡ Some Unbuilt
-refuses_calls m f i name F b n h e c = seen m f i name F b n _ h (or_none _ _ _ (ap why_taken e) (ap (λ o. why_calls (calls_of o)) h.body ∙ ap why_calls c))
+refuses_name m f i name F b n h e = seen m f i name F b n _ h (ap why_taken e)
 
 pub refuses_nothing : (m : Module) (f i : ℕ) (name : List ℕ) (F : FuncType) (b : Body) (n : Named) → Seen m f i F b n → is_exported m.exports name ≡ false
-    → calls_in (code_of b.code) ≡ false → why_not m f i name ≡ None
-refuses_nothing m f i name F b n h e c = seen m f i name F b n _ h (or_none _ _ _ (ap why_taken e) (ap (λ o. why_calls (calls_of o)) h.body ∙ ap why_calls c))
+    → why_not m f i name ≡ None
+refuses_nothing m f i name F b n h e = seen m f i name F b n _ h (ap why_taken e)
 
 -- ---- nothing against it
 
@@ -193,7 +186,6 @@ pub record Nothing (m : Module) (f i : ℕ) (name : List ℕ) : Type 0 where
   pub position : why_no_position (count_in (body_of m f)) i ≡ None
   pub site : why_no_site i (slice_get (sites_in m i (type_of_func m f) (body_of m f)) i) ≡ None
   pub name_free : why_taken (is_exported m.exports name) ≡ None
-  pub calls : why_calls (calls_of (body_of m f)) ≡ None
 
 pub nothing_of : (m : Module) (f i : ℕ) (name : List ℕ) → why_not m f i name ≡ None → Nothing m f i name
 nothing_of m f i name e =
@@ -201,16 +193,13 @@ nothing_of m f i name e =
     let B = why_no_position (count_in (body_of m f)) i in
     let C = why_no_site i (slice_get (sites_in m i (type_of_func m f) (body_of m f)) i) in
     let D = why_taken (is_exported m.exports name) in
-    let E = why_calls (calls_of (body_of m f)) in
-    let b = later_none A (or_else B (or_else C (or_else D E))) e in
-    let c = later_none B (or_else C (or_else D E)) b in
-    let d = later_none C (or_else D E) c in
+    let b = later_none A (or_else B (or_else C D)) e in
+    let c = later_none B (or_else C D) b in
     record {
-      code = first_none A (or_else B (or_else C (or_else D E))) e;
-      position = first_none B (or_else C (or_else D E)) b;
-      site = first_none C (or_else D E) c;
-      name_free = first_none D E d;
-      calls = later_none D E d;
+      code = first_none A (or_else B (or_else C D)) e;
+      position = first_none B (or_else C D) b;
+      site = first_none C D c;
+      name_free = later_none C D c;
     }
 
 -- no export has the name
@@ -221,30 +210,10 @@ not_exported m f i name e h = not_listed m.exports name (free (is_exported m.exp
     free true p = absurd cc
     free false p = refl
 
--- nor does the function call
-pub calls_not : (m : Module) (f i : ℕ) (name : List ℕ) (b : Body) → body_of m f ≡ Some b → why_not m f i name ≡ None → calls_in (code_of b.code) ≡ false
-calls_not m f i name b is e = silent (calls_in (code_of b.code)) (sym (ap (λ o. why_calls (calls_of o)) is) ∙ (nothing_of m f i name e).calls)
-  where
-    silent : (q : Bool) → why_calls q ≡ None → q ≡ false
-    silent true p = absurd cc
-    silent false p = refl
-
 -- an own function's body is what its number tells
 pub body_told : (m : Module) (f : ℕ) (b : Body) → f < func_count m → HasBody m f b → body_of m f ≡ Some b
 body_told m f b lt has =
     ap₂ {A = Bool} {B = Bool} (λ x y. if x || not y then None else slice_get m.bodies (f - import_count m)) (not_below f (import_count m) has.0) (below f (length (func_types m)) lt) ∙ has.1
-
-pub calls_nothing : (m : Module) (f i : ℕ) (name : List ℕ) (new : Module) (at : ℕ) → why_not m f i name ≡ None → (s : IsSliced m f i (record { bytes = name }) new at)
-    → HasCall (sites_at (callees m) s.kind s.body i) → ⊥
-calls_nothing m f i name new at e s =
-    no_call (callees m) (nat_eq i) (code_of s.body.code) (length s.kind.results) (calls_not m f i name s.body (body_told m f s.body (own_below m f s.type s.own) s.has_body) e)
-  where
-    own_below : (m : Module) (f type : ℕ) → IsOwnFunc m f type → f < func_count m
-    own_below m f type own =
-        let w = slice_get_within m.funcs (f - import_count m) type own.1 in
-        let le = own.0 in
-        let l = length-append (imported func_import m.imports) m.funcs in
-        omega arith
 
 -- ---- own functions
 

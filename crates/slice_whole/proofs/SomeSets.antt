@@ -1,6 +1,6 @@
 -- Kept sets and sets of present places have tests: that none has is impossible. A body has finitely many nodes, and of each number it holds, or it doesn't,
 -- that it is the number of a node in the set.
-use Rattle.std.proofs.Common.{◌≡◌, ℕ, zero, suc, ◌+◌, ◌*◌, ◌<◌, ◌⊎◌, ◌&&◌, inl, inr, List, [], ◌∷◌, length, Bool, true, false, Option, Some, None, nat_lt, slice_get, refl, sym, ap, ◌∙◌, subst, arith, true≢false}
+use Rattle.std.proofs.Common.{◌≡◌, ℕ, zero, suc, ◌+◌, ◌*◌, ◌<◌, ◌⊎◌, ◌&&◌, inl, inr, List, [], ◌∷◌, length, Bool, true, false, Option, Some, None, nat_lt, slice_get, take, refl, sym, ap, ◌∙◌, subst, arith, true≢false}
 use Rattle.std.specs.Prelude.{if◌then◌else◌}
 use Rattle.std.proofs.lemmas.Bool.{ltb-true, ltb-false, lt-ltb}
 use Rattle.std.proofs.lemmas.Option.{slice_get_within}
@@ -8,22 +8,19 @@ use Rattle.wasm_types.specs.declared.place.Node.{Node}
 use Rattle.wasm_types.specs.declared.place.Node.TheVariants as node
 use Rattle.wasm_types.specs.declared.place.Node.TheVariants.{Exit}
 use Rattle.wasm_types.specs.Actions.{Callees}
-use Rattle.wasm_types.specs.Locations.{OfCalls}
 use Rattle.wasm_types.specs.Marked.{Marked}
 use Rattle.wasm_types.specs.Nodes.{At, Join}
-use Rattle.wasm_types.specs.Reaching.{Table, writes_it, WritesAt}
+use Rattle.wasm_types.specs.Reaching.{writes_it}
 use Rattle.wasm_types.specs.Sites.{Head, BlockHead, LoopHead, IfHead, Site, Sites, IsSite, EndAt, HasJoin, body_sites, body_ends, carry_names}
-use Rattle.flow_domain.specs.Kept.{Kept, criterion, criterion_operand, operand, reaching, deciding, carrying, ending, holding_at, holding_join, own_join, Tells}
+use Rattle.flow_domain.specs.Bounds.{Bounds}
+use Rattle.flow_domain.specs.Kept.{Tells}
+use Rattle.flow_domain.specs.Keeping.{KeptItem, KeptMaker, KeptNode, argument, carrying, completes, criterion, criterion_operand, deciding, ending, holding_at, holding_join, operand, own_join, place, using, whole, writer}
 use Rattle.flow_domain.specs.Presence.{IsNeeded, IsNeeded as needed}
-use Rattle.flow_laws.proofs.Fine.{MadeOk, AllMade, none_node, some_node, site_fine, end_fine, carry_made, shadow_stands}
+use Rattle.flow_domain.specs.Rows.{CallRows, Done, Item, Makes, Ret}
+use Rattle.flow_laws.proofs.Fine.{MadeOk, AllMade, made_get, none_node, some_node, site_fine, end_fine, carry_made, shadow_stands}
 use Rattle.flow_laws.proofs.Live.{live, is_site, is_end, has_join}
-
--- what follows from P to a contradiction is a contradiction
-abbrev pub NotRefuted : Type 0 → Type 0
-NotRefuted P = (P → ⊥) → ⊥
-
-either : (P : Type 0) → NotRefuted (P ⊎ (P → ⊥))
-either P never = never (inr (λ p. never (inl p)))
+use Rattle.flow_laws.proofs.Order.{get_reverse}
+use Rattle.slice_whole.proofs.NotRefuted.{NotRefuted, either}
 
 -- ---- tests of numbers
 
@@ -129,19 +126,30 @@ module _ (cs : Callees) (t : ℕ) (c : Marked) where
   at_live : (p : ℕ) (s : Site) → IsSite S p s → live S (At p) ≡ true
   at_live p s is = ap is_site is
 
-  -- a kept node is live
-  pub kept_live : (U : Table) (C : OfCalls) (n : Node) → Kept cs (WritesAt cs C S) U S E n → live S n ≡ true
-  kept_live U C n (criterion {p = p} s is on) = at_live p s is
-  kept_live U C n (criterion_operand p k s is on lt e) = live_name S s.names k n (site_fine cs t c p s is).names e
-  kept_live U C n (operand p k s at is lt e) = live_name S s.names k n (site_fine cs t c p s is).names e
-  kept_live U C n (reaching {d = d} u x at uses (writes_it w) path) = at_live d w.site w.is
-  kept_live U C n (deciding {p = p} m at sh) = let st = shadow_stands S p m sh in at_live p st.site st.is
-  kept_live U C n (carrying p l k s at is br lt e) =
+  -- where a node is kept, or its value is needed, it is live
+  abbrev LiveItem : Item → Type 0
+  LiveItem (Makes n out) = live S n ≡ true
+  LiveItem _ = Unit {0}
+
+  live_item : (B : Bounds) (R : CallRows) (x : Item) → KeptItem B R S E x → LiveItem x
+  live_item B R x (criterion {p = p} s is on) = at_live p s is
+  live_item B R x (criterion_operand {n = n} p k s is on lt e) = live_name S s.names k n (site_fine cs t c p s is).names e
+  live_item B R x (completes out kept) = live_item B R _ kept
+  live_item B R x (whole s kept is plain) = live_item B R _ kept
+  live_item B R x (operand {n = n} p k s kept is plain lt e) = live_name S s.names k n (site_fine cs t c p s is).names e
+  live_item B R x (using s op kept is head plain uses) = tt
+  live_item B R x (argument {n = n} p k g out s op kept is head calls row e) =
+      let stands = get_reverse (take _ s.names) k n e in live_made S n (made_get S _ stands.place s.names n (site_fine cs t c p s is).names stands.is)
+  live_item B R x (place g out s op kept is head calls row outer) = tt
+  live_item B R x (writer {d = d} a kept (writes_it w) path) = at_live d w.0 w.1
+  live_item B R x (deciding {p = p} n kept sh) = let st = shadow_stands S p n sh in at_live p st.site st.is
+  live_item B R x (carrying {n = n} p l k s kept is br lt e) =
       live_name S (carry_names s.head s.names) k n (carry_made S s.head s.names (site_fine cs t c p s is).names) e
-  kept_live U C n (ending e k at among lt is) = live_name S e.names k n (end_fine cs t c e among).names is
-  kept_live U C n (holding_at {b = b} q s at is lt gt) = at_live b s is
-  kept_live U C n (holding_join {b = b} q s at is lt gt) = at_live b s is
-  kept_live U C n (own_join {b = b} at) = let x = end_of (slice_get S b) (kept_live U C (Join b) at) in at_live b x.0 x.1
+  live_item B R x (ending {n = n} e k kept among lt is) = live_name S e.names k n (end_fine cs t c e among).names is
+  live_item B R x (holding_at {b = b} q s kept is lt gt) = at_live b s is
+  live_item B R x (holding_join {b = b} q s kept is lt gt) = at_live b s is
+  live_item B R x (own_join {b = b} kept) =
+      let on : live S (Join b) ≡ true = live_item B R _ kept in let found = end_of (slice_get S b) on in at_live b found.0 found.1
 
   -- and has a number below this
   abbrev pub most : ℕ
@@ -160,9 +168,13 @@ module _ (cs : Callees) (t : ℕ) (c : Marked) where
   live_small (node.Join b) on = let x = end_of (slice_get S b.0) on in let lt = site_small b.0 x.0 x.1 in omega (arith, lt)
   live_small Exit on = omega arith
 
-  -- so some test tells the kept set
-  pub some_kept : (U : Table) (C : OfCalls) → NotRefuted ((K : Node → Bool) × Tells K (Kept cs (WritesAt cs C S) U S E))
-  some_kept U C = some_test (Kept cs (WritesAt cs C S) U S E) most (λ n kept. live_small n (kept_live U C n kept))
+  -- so some test tells what is kept, and one what is kept for its value
+  module _ (B : Bounds) (R : CallRows) where
+    pub some_kept : NotRefuted ((K : Node → Bool) × Tells K (KeptNode B R S E))
+    some_kept = some_test (KeptNode B R S E) most (λ n kept. live_small n (live_item B R (Makes n Done) kept))
+
+    pub some_makers : NotRefuted ((M : Node → Bool) × Tells M (KeptMaker B R S E))
+    some_makers = some_test (KeptMaker B R S E) most (λ n kept. live_small n (live_item B R (Makes n Ret) kept))
 
   -- what the cut needs, where live nodes are kept
   needed_small : (K : Node → Bool) → ((n : Node) → K n ≡ true → live S n ≡ true) → (n : Node) → IsNeeded cs S E K n → number n < most

@@ -7,26 +7,31 @@ use Rattle.wasm_types.specs.declared.module.Module.{Module}
 use Rattle.wasm_types.specs.declared.place.Node.{Node}
 use Rattle.wasm_types.specs.declared.place.Part.TheVariants as part
 use Rattle.wasm_types.specs.Marked.{watched_at}
-use Rattle.wasm_types.specs.Subset.{HasNoFloat}
+use Rattle.wasm_types.specs.Subset.{HasNoFloat, IsSealed}
 use Rattle.wasm_types.specs.Spaces.{imported, func_import, import_count, type_of_func, body_of}
 use Rattle.wasm_types.specs.Validity.{IsValid}
 use Rattle.wasm_types.specs.Actions.{callees}
 use Rattle.wasm_types.specs.Sites.{Site, IsSite}
-use Rattle.flow_domain.specs.Kept.{Tells}
-use Rattle.flow_domain.specs.Sliced.{func_count, sites_at, UsesAt, no_calls, KeptAt, cut_of, with_code, appended, watched_once, IsSliced}
+use Rattle.flow_domain.specs.Bounds.{Cover, bounds}
+use Rattle.flow_domain.specs.Sliced.{func_count, cut_of, with_code, appended, watched_once}
+use Rattle.flow_domain.specs.SlicedFor.{rows_in, IsSlicedFor}
 use Rattle.stack_repair.proofs.Appended.{own_body, type_at}
 use Rattle.stack_repair.proofs.Bodies.{types_of_body}
 use Rattle.stack_repair.proofs.ExactCut.{needed_told}
 use Rattle.slice_whole.specs.declared.slicing.SliceRefusal.TheVariants.{NoFunction, Imported}
-use Rattle.slice_whole.specs.Slices.{Own, sites_of, why_no_site, sites_in, why_not}
+use Rattle.slice_whole.specs.Slices.{KeepsIn, Own, sites_of, why_no_site, sites_in, why_not}
 use Rattle.slice_whole.proofs.Refused.{body_told, nothing_of, present_at}
-use Rattle.slice_whole.proofs.SomeSets.{NotRefuted, some_kept}
+use Rattle.slice_whole.proofs.NotRefuted.{NotRefuted}
+use Rattle.slice_whole.proofs.SomeCover.{some_cover}
+use Rattle.slice_whole.proofs.SomeSets.{some_kept, some_makers}
 
 -- some test tells the kept set of a position
-pub some_kept_set : (m : Module) (f i : ℕ) (o : Own m f) → NotRefuted ((K : Node → Bool) × Tells K (KeptAt (callees m) o.kind o.body i))
-some_kept_set m f i o =
-    let n = length o.kind.results in
-    some_kept (callees m) n (watched_once o.body i) (UsesAt (callees m) no_calls (sites_at (callees m) o.kind o.body i)) no_calls
+pub some_keeps : (m : Module) (W : Cover) (t : FuncType) (b : Body) (i : ℕ) → NotRefuted ((K : Node → Bool) × KeepsIn m W t b i K)
+some_keeps m W t b i never =
+    let n = length t.results in
+    some_kept (callees m) n (watched_once b i) (bounds m W) (rows_in m W) (λ K.
+    some_makers (callees m) n (watched_once b i) (bounds m W) (rows_in m W) (λ M.
+    never (K.0, record { exact = K.1; makers = M.0; made = M.1 })))
 
 -- ---- own functions
 
@@ -67,14 +72,15 @@ own_seen m valid integer f i name e =
     let s = site_there i (slice_get (sites_in m i (type_of_func m f) (body_of m f)) i) all.site in
     (o, s.0, sym (ap₂ {A = Option FuncType} {B = Option Body} (λ x y. slice_get (sites_in m i x y) i) is b) ∙ s.1)
 
-pub some_sliced : (m : Module) (f i : ℕ) (name : Name) → IsValid m → HasNoFloat m → why_not m f i name.bytes ≡ None
-    → NotRefuted ((new : Module) × (at : ℕ) × IsSliced m f i name new at)
-some_sliced m f i name valid integer e never =
-    let seen = own_seen m valid integer f i name.bytes e in
+pub some_sliced : (m : Module) (f i : ℕ) (name : Name) → IsSealed m → why_not m f i name.bytes ≡ None
+    → NotRefuted ((new : Module) × (at : ℕ) × IsSlicedFor m f i name new at)
+some_sliced m f i name sealed e never =
+    let seen = own_seen m sealed.valid sealed.no_float f i name.bytes e in
     let o = seen.0 in
-    let h = own_body m valid integer f o.type o.kind o.body o.own o.kind_is o.has_body in
+    let h = own_body m sealed.valid sealed.no_float f o.type o.kind o.body o.own o.kind_is o.has_body in
     let T = types_of_body m o.kind o.body (nat_eq i) in
-    some_kept_set m f i o (λ K.
+    some_cover m sealed (λ W.
+    some_keeps m W.0 o.kind o.body i (λ K.
     let P = needed_told m o.kind o.body h i K.0 in
     let cut = cut_of (callees m) K.0 P.0 T.0 o.kind o.body i in
     never (
@@ -89,8 +95,12 @@ some_sliced m f i name valid integer e never =
         has_body = o.has_body;
         site = seen.1;
         live = seen.2;
+        cover = W.0;
+        cover_is = W.1;
         kept = K.0;
-        exact = K.1;
+        exact = K.1.exact;
+        makers = K.1.makers;
+        made = K.1.made;
         present = P.0;
         needed = P.1;
         types = T.0;
@@ -98,4 +108,4 @@ some_sliced m f i name valid integer e never =
         is = refl;
         at_is = refl;
       },
-    ))
+    )))

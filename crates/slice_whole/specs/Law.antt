@@ -6,13 +6,12 @@ use Rattle.wasm_types.specs.declared.module.Module.{Module}
 use Rattle.wasm_types.specs.declared.run.Event.{Event}
 use Rattle.wasm_types.specs.Validity.{IsValid}
 use Rattle.wasm_types.specs.Subset.{HasNoFloat}
-use Rattle.wasm_types.specs.Actions.{callees}
 use Rattle.wasm_meaning.specs.State.{State}
 use Rattle.wasm_meaning.specs.Fits.{Fits}
 use Rattle.wasm_meaning.specs.Invoke.{Returns}
-use Rattle.flow_domain.specs.Sliced.{func_count, sites_at, IsSliced}
+use Rattle.flow_domain.specs.Sliced.{func_count}
+use Rattle.flow_domain.specs.SlicedFor.{IsSlicedFor}
 use Rattle.flow_laws.specs.Slices.{ReturnsToo}
-use Rattle.slice_whole.specs.Slices.{HasCall}
 
 -- whenever function f of m returns, function g of `new` returns from the same start, after no more turns and with the same events
 abbrev pub Follows : (m : Module) (f i : ℕ) (new : Module) (g at : ℕ) → Type 0
@@ -21,8 +20,8 @@ Follows m f i new g at =
     → (n : ℕ) (results : List Value) (final : State) (events : List Event) → Returns m f i args s n results final events
     → ReturnsToo new g at args s n final events
 
--- In a valid module without floats the slice of a function that calls nothing follows it.
+-- In a valid module without floats the slice of a function follows it.
 abbrev pub SliceFollows : Type 0
 SliceFollows =
-    (m : Module) → IsValid m → HasNoFloat m → (f i : ℕ) (name : Name) (new : Module) (at : ℕ) (s : IsSliced m f i name new at)
-    → (HasCall (sites_at (callees m) s.kind s.body i) → ⊥) → Follows m f i new (func_count m) at
+    (m : Module) → IsValid m → HasNoFloat m → (f i : ℕ) (name : Name) (new : Module) (at : ℕ)
+    → IsSlicedFor m f i name new at → Follows m f i new (func_count m) at

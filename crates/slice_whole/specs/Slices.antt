@@ -7,21 +7,21 @@ use Rattle.wasm_types.specs.declared.module.Body.{Body}
 use Rattle.wasm_types.specs.declared.module.Export.{Export}
 use Rattle.wasm_types.specs.declared.module.Module.{Module}
 use Rattle.wasm_types.specs.declared.place.Node.{Node}
-use Rattle.wasm_types.specs.declared.instr.Instr.{Instr}
-use Rattle.wasm_types.specs.declared.instr.Instr as instr
 use Rattle.wasm_types.specs.Code.{code_of, count, nest}
 use Rattle.wasm_types.specs.Sizes.{positions}
 use Rattle.wasm_types.specs.Spaces.{HasBody, IsOwnFunc, import_count, type_of_func, body_of}
 use Rattle.wasm_types.specs.Actions.{callees}
-use Rattle.wasm_types.specs.Sites.{Site, Sites, IsSite, DoHead}
+use Rattle.wasm_types.specs.Sites.{Site, Sites, IsSite}
+use Rattle.flow_domain.specs.Bounds.{Cover}
 use Rattle.flow_domain.specs.Kept.{Tells}
-use Rattle.flow_domain.specs.Sliced.{func_count, sites_at, KeptAt, HasExport, IsSliced}
+use Rattle.flow_domain.specs.Sliced.{func_count, sites_at, HasExport}
+use Rattle.flow_domain.specs.SlicedFor.{KeptIn, MadeIn, IsSlicedFor}
+use Rattle.flow_domain.specs.Touch.{IsExact}
 use Rattle.stack_repair.specs.Cuts.{IsCut}
-use Rattle.slice_whole.specs.Calling.{calls_in}
 use Rattle.slice_whole.specs.declared.slicing.Sliced.{Sliced}
 use Rattle.slice_whole.specs.declared.slicing.NewFunc.{NewFunc}
 use Rattle.slice_whole.specs.declared.slicing.SliceRefusal.{SliceRefusal}
-use Rattle.slice_whole.specs.declared.slicing.SliceRefusal.TheVariants.{NoFunction, Imported, NoInstruction, Dead, NameTaken, Unbuilt, Memory}
+use Rattle.slice_whole.specs.declared.slicing.SliceRefusal.TheVariants.{NoFunction, Imported, NoInstruction, Dead, NameTaken, Memory}
 
 -- ---- an own function
 
@@ -38,20 +38,19 @@ pub record Own (m : Module) (f : ℕ) : Type 0 where
 abbrev pub sites_of : (m : Module) (f : ℕ) → Own m f → ℕ → Sites
 sites_of m f o i = sites_at (callees m) o.kind o.body i
 
--- a call of a function, or through the table (WebAssembly Core Specification 1.0, section 2.4.7)
-abbrev pub IsCall : Instr → Type 0
-IsCall (instr.Call f) = Unit {0}
-IsCall (instr.CallIndirect t) = Unit {0}
-IsCall _ = ⊥
+-- ---- kept sets
 
--- a live position holds a call
-pub record HasCall (S : Sites) : Type 0 where
-  pub at : ℕ
-  pub site : Site
-  pub is : IsSite S at site
-  pub instr : Instr
-  pub head : site.head ≡ DoHead instr
-  pub call : IsCall instr
+-- K tells the kept set of position i of a body of this type, and some test the nodes of it whose value is needed
+pub record KeepsIn (m : Module) (W : Cover) (t : FuncType) (b : Body) (i : ℕ) (K : Node → Bool) : Type 0 where
+  pub exact : Tells K (KeptIn m W t b i)
+  pub makers : Node → Bool
+  pub made : Tells makers (MadeIn m W t b i)
+
+-- K tells the kept set of position i of function f, by what the functions of m write and touch, just as it is
+pub record IsKeptOf (m : Module) (f i : ℕ) (K : Node → Bool) : Type 0 where
+  pub cover : Cover
+  pub cover_is : IsExact m cover
+  pub keeps : (t : FuncType) (b : Body) → type_of_func m f ≡ Some t → HasBody m f b → KeepsIn m cover t b i K
 
 -- ---- refusals
 
@@ -92,28 +91,18 @@ abbrev pub why_taken : Bool → Option SliceRefusal
 why_taken true = Some NameTaken
 why_taken false = None
 
--- a call stands in live code
-abbrev pub why_calls : Bool → Option SliceRefusal
-why_calls true = Some Unbuilt
-why_calls false = None
-
-abbrev pub calls_of : Option Body → Bool
-calls_of None = false
-calls_of (Some b) = calls_in (code_of b.code)
-
 -- Why position i of function f isn't sliced under a name: the first cause.
 abbrev pub why_not : Module → ℕ → ℕ → List ℕ → Option SliceRefusal
 why_not m f i name =
     let site = slice_get (sites_in m i (type_of_func m f) (body_of m f)) i in
-    or_else (why_no_code m f) (or_else (why_no_position (count_in (body_of m f)) i) (or_else (why_no_site i site)
-    (or_else (why_taken (is_exported m.exports name)) (why_calls (calls_of (body_of m f))))))
+    or_else (why_no_code m f) (or_else (why_no_position (count_in (body_of m f)) i) (or_else (why_no_site i site) (why_taken (is_exported m.exports name))))
 
 -- ---- answers
 
 -- What slicing answers: the sliced module and the number of its new function, or the first cause against it. An allocation may be refused at any time.
 abbrev pub Slices : Module → ℕ → ℕ → Name → Result Sliced SliceRefusal → Type 0
 Slices m f i name (Ok s) =
-    (why_not m f i name.bytes ≡ None) × IsSliced m f i name s.module s.at.0 × (s.func ≡ func_count m) × (HasExport m.exports name.bytes → ⊥)
+    (why_not m f i name.bytes ≡ None) × IsSlicedFor m f i name s.module s.at.0 × (s.func ≡ func_count m) × (HasExport m.exports name.bytes → ⊥)
 Slices m f i name (Err Memory) = Unit {0}
 Slices m f i name (Err why) = why_not m f i name.bytes ≡ Some why
 
@@ -123,8 +112,10 @@ pub record IsNew (m : Module) (f i : ℕ) (new : NewFunc) : Type 0 where
   pub type_is : new.kind ≡ own.type
   pub site : Site
   pub live : IsSite (sites_of m f own i) i site
+  pub cover : Cover
+  pub cover_is : IsExact m cover
   pub kept : Node → Bool
-  pub exact : Tells kept (KeptAt (callees m) own.kind own.body i)
+  pub keeps : KeepsIn m cover own.kind own.body i kept
   pub cut : IsCut m f kept i new.body new.at.0
 
 abbrev pub FindsNew : Module → ℕ → ℕ → List ℕ → Result NewFunc SliceRefusal → Type 0

@@ -1,10 +1,10 @@
 //! The sliced module of a function, an instruction and a name.
 #![tactic(auto)]
 
-mod calling;
+mod keeping;
 mod laws;
 mod slicing;
 
-pub use calling::calls;
+pub use keeping::kept_named;
 pub use laws::law_slice_follows;
 pub use slicing::{SliceRefusal, Sliced, slice};

@@ -1,4 +1,4 @@
-//! Slices of functions that call nothing.
+//! Slices of functions.
 
 ghost use Rattle.std.specs.Prelude.{◌≡◌, ◌+◌, ◌*◌, ◌^◌, ◌<◌, ◌≤◌, IfOk, length};
 ghost use Rattle.wasm_types.specs.Canon.{canon};
@@ -8,10 +8,9 @@ ghost use Rattle.flow_domain.specs.Sliced.{appended, func_count};
 ghost use Rattle.slice_whole.specs.declared.slicing.SliceRefusal.TheVariants as SliceRefusal;
 ghost use Rattle.slice_whole.specs.Slices.{FindsNew, IsShortFor, Slices, is_exported};
 
-use crate::calling::calls;
-use slice_closure::close_named;
+use crate::keeping::kept_named;
 use sqlite_items::Items;
-use stack_names::names;
+use stack_names::end_names;
 use stack_repair::{CutBody, cut};
 use std::alloc::Global;
 use thiserror::Error;
@@ -43,9 +42,6 @@ pub enum SliceRefusal {
     /// An export has the name.
     #[error("the name is taken")]
     NameTaken,
-    /// The function calls, which isn't sliced yet.
-    #[error("not built yet")]
-    Unbuilt,
     /// An allocation was refused.
     #[error("memory refused")]
     Memory,
@@ -125,17 +121,14 @@ fn new_func(
     if at.0 >= positions {
         return Err(SliceRefusal::NoInstruction { count: positions });
     }
-    let names = names(alloc, given, func)?;
+    let names = end_names(alloc, given, func)?;
     if !names.live(at) {
         return Err(SliceRefusal::Dead { at });
     }
     if is_exported(module.exports.as_slice(), name) {
         return Err(SliceRefusal::NameTaken);
     }
-    if calls(body.code.as_slice()) {
-        return Err(SliceRefusal::Unbuilt);
-    }
-    let kept = close_named(alloc, given, func, &names, at)?;
+    let kept = kept_named(alloc, given, func, &names, at)?;
     let CutBody { body, at } = cut(alloc, given, func, &names, &kept, at)?;
     let own = func as usize + module.funcs.len() - count as usize;
     let Some(kind) = module.funcs.get(own) else {
@@ -149,8 +142,7 @@ fn new_func(
 }
 
 /// The sliced module: one function more, the cut of own function `func` at position `at`, which is exported as `name`. It refuses a number that no own
-/// function has, a position that the body doesn't have or that is dead, a name that an export has, a function that calls, and then only where an allocation
-/// is refused.
+/// function has, a position that the body doesn't have or that is dead, a name that an export has, and then only where an allocation is refused.
 pub fn slice(
     alloc: Global,
     given: ValidModule,

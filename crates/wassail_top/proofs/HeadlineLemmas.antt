@@ -20,7 +20,7 @@ use Rattle.wassail_top.specs.RunAnswers.{AnswersUnless}
 use Rattle.wassail_top.proofs.SliceQueries.{not_sliced_none}
 use Rattle.wassail_top.proofs.TableRows.{rows_agree, rows_return}
 use Rattle.slice_whole.proofs.Follows.{slice_follows}
-use Rattle.slice_whole.proofs.Refused.{calls_nothing, not_exported}
+use Rattle.slice_whole.proofs.Refused.{not_exported}
 use Rattle.wassail_top.specs.Words.{order_of}
 use Rattle.wassail_top.proofs.Causes.{module_status}
 use Rattle.stack_repair.proofs.Slices.{sliced_has_cut}
@@ -101,8 +101,7 @@ slice_headline words f i name left_old left_new before now out_old out_new err_o
       err = given.err;
       valid = valid.0;
       itself = record { decodes = (spelled.1, valid.3 most_nesting sub.nesting); alone = spelled.2 };
-      follows = slice_follows form r.admitted.valid r.admitted.no_float f i (name_of name) s.new s.at s.sliced
-          (calls_nothing form f i name s.new s.at none s.sliced);
+      follows = slice_follows form r.admitted.valid r.admitted.no_float f i (name_of name) s.new s.at s.sliced;
     }
 
 -- ---- summaries

@@ -2,12 +2,12 @@
 use Rattle.std.proofs.Common.{◌≡◌, ℕ, ◌+◌, ◌<◌, ◌≤◌, ◌^◌, Bool, true, false, length, Option, Some, None, refl, sym, ◌∙◌, arith, nat_lt, length-append, slice_get, get_or, []}
 use Rattle.std.specs.Prelude.{◌-◌, ◌||◌, not, if◌then◌else◌}
 use Rattle.std.proofs.lemmas.Bool.Decides.{nat_tests}
-use Rattle.std.proofs.lemmas.Option.{slice_get-get_or, slice_get_within}
+use Rattle.std.proofs.lemmas.Option.{slice_get-get_or}
 use Rattle.wasm_types.specs.declared.module.Body.{Body}
 use Rattle.wasm_types.specs.declared.module.FuncType.{FuncType}
 use Rattle.wasm_types.specs.declared.module.Module.{Module}
 use Rattle.wasm_types.specs.declared.place.LimitKind.TheVariants as limit
-use Rattle.wasm_types.specs.Spaces.{body_of, func_types, import_count, imported, func_import, type_numbered, type_of_func}
+use Rattle.wasm_types.specs.Spaces.{body_of, func_types, import_count, imported, func_import, type_of_func}
 use Rattle.wasm_types.specs.Subset.{IsSealed}
 use Rattle.wasm_types.specs.Validity.{IsValid}
 use Rattle.stack_names.proofs.NameLemmas.{own_body, own_typed}
@@ -38,15 +38,6 @@ imported_code m f valid lt none = go (nat_lt f (import_count m)) refl (nat_lt f 
         let there : f - import_count m < length m.bodies = omega (arith, own, lt, long, same) in
         let some = slice_get-get_or m.bodies (f - import_count m) (record { locals = []; code = [] }) there in
         let both : None ≡ Some (get_or m.bodies (f - import_count m) (record { locals = []; code = [] })) = sym e ∙ some in absurd cc
-
--- ---- functions with a type
-
-pub typed_there : (m : Module) (f : ℕ) (t : FuncType) → type_of_func m f ≡ Some t → f < length (func_types m)
-typed_there m f t e = go (slice_get (func_types m) f) refl e
-  where
-    go : (o : Option ℕ) → slice_get (func_types m) f ≡ o → type_numbered m.types o ≡ Some t → f < length (func_types m)
-    go None at has = absurd cc
-    go (Some k) at has = slice_get_within (func_types m) f k at
 
 -- ---- functions with code
 

@@ -1,35 +1,12 @@
 -- The rows of a module's functions have one test.
-use Rattle.std.proofs.Common.{◌≡◌, Bool, true, false, refl, sym, ap₂, subst}
+use Rattle.std.proofs.Common.{◌≡◌, sym, subst}
 use Rattle.std.proofs.Math.Path.{fun_ext}
 use Rattle.wasm_types.specs.declared.module.Module.{Module}
-use Rattle.wasm_types.specs.declared.place.Loc.{Loc}
-use Rattle.wasm_types.specs.Actions.{Callee}
 use Rattle.flow_domain.specs.Bounds.{Cover, bounds}
-use Rattle.flow_domain.specs.Reach.{CalleeWrites}
 use Rattle.flow_domain.specs.Rows.{AnyRound}
 use Rattle.flow_domain.specs.Summaries.{asked, place_of}
-use Rattle.flow_domain.specs.Touch.{CalleeTouches, IsExact}
+use Rattle.slice_whole.proofs.OneCover.{one_cover, same_bool}
 use Rattle.wassail_top.specs.Summaries.{AreRows, RowTest}
-
-same_bool : (a b : Bool) → (a ≡ true → b ≡ true) → (b ≡ true → a ≡ true) → a ≡ b
-same_bool true true p q = refl
-same_bool true false p q = sym (p refl)
-same_bool false true p q = q refl
-same_bool false false p q = refl
-
--- tests of the same sets
-one_set : (p q : Callee → Loc → Bool) (Is : Callee → Loc → Type 0) → ((g : Callee) (x : Loc) → (p g x ≡ true → Is g x) × (Is g x → p g x ≡ true))
-    → ((g : Callee) (x : Loc) → (q g x ≡ true → Is g x) × (Is g x → q g x ≡ true)) → p ≡ q
-one_set p q Is a b = fun_ext (λ g. fun_ext (λ x. same_bool (p g x) (q g x) (λ on. (b g x).1 ((a g x).0 on)) (λ on. (a g x).1 ((b g x).0 on))))
-
-cover_by : (Callee → Loc → Bool) → (Callee → Loc → Bool) → Cover
-cover_by w t = record { writes = w; touch = t }
-
-one_cover : (m : Module) (V W : Cover) → IsExact m V → IsExact m W → V ≡ W
-unfolding cover_by
-one_cover m V W v w =
-    ap₂ {A = Callee → Loc → Bool} {B = Callee → Loc → Bool} cover_by (one_set V.writes W.writes (CalleeWrites m) v.writes w.writes)
-    (one_set V.touch W.touch (CalleeTouches m) v.touch w.touch)
 
 pub one_rows : (m : Module) (R Q : RowTest) → AreRows m R → AreRows m Q → R ≡ Q
 one_rows m R Q a b = fun_ext (λ f. fun_ext (λ o. fun_ext (λ i. same_bool (R f o i) (Q f o i)

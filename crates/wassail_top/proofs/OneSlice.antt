@@ -6,12 +6,14 @@ use Rattle.wasm_types.specs.declared.module.Body.{Body}
 use Rattle.wasm_types.specs.declared.module.FuncType.{FuncType}
 use Rattle.wasm_types.specs.declared.module.Module.{Module}
 use Rattle.wasm_types.specs.declared.place.Node.{Node}
-use Rattle.wasm_types.specs.Actions.{callees}
 use Rattle.wasm_types.specs.Code.{code_of, count}
 use Rattle.wasm_validate.specs.Admission.{IsAdmitted}
+use Rattle.flow_domain.specs.Bounds.{Cover}
 use Rattle.flow_domain.specs.Kept.{Tells}
-use Rattle.flow_domain.specs.Sliced.{func_count, KeptAt}
+use Rattle.flow_domain.specs.Sliced.{func_count}
+use Rattle.flow_domain.specs.SlicedFor.{KeptIn}
 use Rattle.stack_repair.proofs.ExactCut.{one_test}
+use Rattle.slice_whole.proofs.OneCover.{one_cover}
 use Rattle.slice_whole.proofs.OneSliced.{one_sliced}
 use Rattle.wassail_top.specs.Answers.{IsKeptAs, IsSlicedAs, bytes_alone, name_of, slice_answer}
 use Rattle.wassail_top.specs.Refusals.{Answer}
@@ -30,12 +32,14 @@ same_some e = cc
 
 one_kept : (m : Module) (f i : ℕ) (a b : Answer) → IsKeptAs m f i a → IsKeptAs m f i b → a ≡ b
 one_kept m f i a b p q =
-    let C = callees m in
     let kind : q.kind ≡ p.kind = same_some (sym q.kind_is ∙ p.kind_is) in
     let body : q.body ≡ p.body = same_some (sym q.has_body ∙ p.has_body) in
-    let exact : Tells q.nodes (KeptAt C p.kind p.body i) =
-    subst (λ (x : Body). Tells q.nodes (KeptAt C p.kind x i)) body (subst (λ (t : FuncType). Tells q.nodes (KeptAt C t q.body i)) kind q.exact) in
-    let nodes : p.nodes ≡ q.nodes = one_test p.nodes q.nodes (KeptAt C p.kind p.body i) p.exact exact in
+    let cover : q.cover ≡ p.cover = one_cover m q.cover p.cover q.cover_is p.cover_is in
+    let exact : Tells q.nodes (KeptIn m p.cover p.kind p.body i) =
+    subst (λ (W : Cover). Tells q.nodes (KeptIn m W p.kind p.body i)) cover
+    (subst (λ (x : Body). Tells q.nodes (KeptIn m q.cover p.kind x i)) body
+    (subst (λ (t : FuncType). Tells q.nodes (KeptIn m q.cover t q.body i)) kind q.exact)) in
+    let nodes : p.nodes ≡ q.nodes = one_test p.nodes q.nodes (KeptIn m p.cover p.kind p.body i) p.exact exact in
     p.is ∙ ap (λ (K : Node → Bool). bytes_alone (kept_lines K (count (code_of p.body.code)))) nodes
     ∙ ap (λ (x : Body). bytes_alone (kept_lines q.nodes (count (code_of x.code)))) (sym body) ∙ sym q.is
 

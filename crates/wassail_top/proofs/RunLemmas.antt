@@ -22,7 +22,7 @@ use Rattle.module_run.proofs.SomeRun.{some_run}
 use Rattle.wassail_top.specs.Queries.{params_in, params_of, why_no_run, why_no_values, why_not_called, why_too_large}
 use Rattle.wassail_top.specs.Refusals.{Answer, refused, why_no_code}
 use Rattle.wassail_top.specs.RunAnswers.{AnswersUnless, IsRunAs, IsStatusOfRun, run_answer}
-use Rattle.wassail_top.proofs.NotRefuted.{NotRefuted}
+use Rattle.slice_whole.proofs.NotRefuted.{NotRefuted}
 use Rattle.wassail_top.proofs.NoCode.{has_type}
 
 -- ---- causes

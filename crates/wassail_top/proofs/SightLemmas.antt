@@ -18,7 +18,8 @@ use Rattle.wasm_types.specs.Funcs.{Func, func_from, func_of, unwatched}
 use Rattle.wasm_types.specs.Sites.{Site}
 use Rattle.wasm_types.specs.Spaces.{body_of, run_types}
 use Rattle.stack_names.specs.Listed.{Listed}
-use Rattle.stack_names.specs.Named.{AreNames, Named, is_listed, is_live_in, listed, listed_all, sites_in}
+use Rattle.stack_names.specs.Ends.{HasValues}
+use Rattle.stack_names.specs.Named.{Named, is_listed, is_live_in, listed, listed_all, sites_in}
 use Rattle.wassail_top.specs.Queries.{positions_of, why_dead, why_no_position, why_no_site, why_not_seen}
 
 -- why a position is refused that is live or not
@@ -31,7 +32,7 @@ of_site i cs T None = refl
 of_site i cs T (Some None) = refl
 of_site i cs T (Some (Some s)) = refl
 
-dead_by_names : (m : Module) (f i : ℕ) (n : Named) (b : Body) → AreNames m f unwatched n → body_of m f ≡ Some b
+dead_by_names : (m : Module) (f i : ℕ) (n : Named) (b : Body) → HasValues m f unwatched n → body_of m f ≡ Some b
     → why_dead m i (func_of m f) ≡ unless_live i (is_live_in n.positions i)
 dead_by_names m f i n b h own =
     let body : h.body ≡ b = (let e : Some h.body ≡ Some b = sym h.has_body.1 ∙ own_body m f b own in cc) in
@@ -72,7 +73,7 @@ past_end m f i n b own is le =
     sym (ap (λ k. option_or (why_no_position k i) dead) (positions_are m f n b own is) ∙ past i n dead le)
 
 -- before it, the names tell whether a position is dead
-pub seen_by_names : (m : Module) (f i n : ℕ) (names : Named) (b : Body) (live : Bool) → AreNames m f unwatched names → body_of m f ≡ Some b
+pub seen_by_names : (m : Module) (f i n : ℕ) (names : Named) (b : Body) (live : Bool) → HasValues m f unwatched names → body_of m f ≡ Some b
     → n ≡ count (code_of b.code) → i < n → live ≡ is_live_in names.positions i → unless_live i live ≡ why_not_seen m f i
 seen_by_names m f i n names b live h own is lt told =
     let dead = why_dead m i (func_of m f) in

@@ -7,7 +7,7 @@ use Rattle.wasm_types.specs.Spaces.{body_of, import_count, type_of_func}
 use Rattle.flow_domain.specs.Sliced.{func_count}
 use Rattle.slice_whole.specs.declared.slicing.SliceRefusal.{SliceRefusal}
 use Rattle.slice_whole.specs.declared.slicing.SliceRefusal.TheVariants as cause
-use Rattle.slice_whole.specs.Slices.{calls_of, count_in, is_exported, or_else, sites_in, why_calls, why_no_code, why_no_position, why_no_site, why_not, why_taken}
+use Rattle.slice_whole.specs.Slices.{count_in, is_exported, or_else, sites_in, why_no_code, why_no_position, why_no_site, why_not, why_taken}
 use Rattle.wassail_top.specs.Queries.{why_no_slice}
 use Rattle.wassail_top.specs.Refusals.{why_not_sliced}
 
@@ -37,18 +37,13 @@ taken : (p : Bool) → IsCause (why_taken p)
 taken true e = absurd cc
 taken false e = absurd cc
 
-called : (p : Bool) → IsCause (why_calls p)
-called true e = absurd cc
-called false e = absurd cc
-
 is_cause : (m : Module) (f i : ℕ) (name : List ℕ) → IsCause (why_not m f i name)
 is_cause m f i name =
     let s = slice_get (sites_in m i (type_of_func m f) (body_of m f)) i in
-    let c = calls_of (body_of m f) in
     let t = is_exported m.exports name in
     either (why_no_code m f) _ (code (nat_lt f (func_count m)) (nat_lt f (import_count m)) f)
     (either (why_no_position (count_in (body_of m f)) i) _ (position (nat_lt i (count_in (body_of m f))) (count_in (body_of m f)))
-    (either (why_no_site i s) _ (site i s) (either (why_taken t) (why_calls c) (taken t) (called c))))
+    (either (why_no_site i s) (why_taken t) (site i s) (taken t)))
 
 of_cause : (f i : ℕ) (o : Option SliceRefusal) → IsCause o → option_and_then (why_not_sliced f i) o ≡ None → o ≡ None
 of_cause f i None is e = refl
@@ -57,7 +52,6 @@ of_cause f i (Some (cause.Imported g)) is e = absurd cc
 of_cause f i (Some (cause.NoInstruction n)) is e = absurd cc
 of_cause f i (Some (cause.Dead p)) is e = absurd cc
 of_cause f i (Some cause.NameTaken) is e = absurd cc
-of_cause f i (Some cause.Unbuilt) is e = absurd cc
 of_cause f i (Some cause.Memory) is e = absurd (is refl)
 
 pub not_sliced_none : (m : Module) (f i : ℕ) (name : List ℕ) → why_no_slice m f i name ≡ None → why_not m f i name ≡ None

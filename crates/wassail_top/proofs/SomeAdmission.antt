@@ -24,7 +24,8 @@ use Rattle.wasm_validate.proofs.FloatLemmas.{holds_each_float}
 use Rattle.wasm_validate.proofs.PartLemmas as parts
 use Rattle.wasm_validate.proofs.PartLemmas.{UpTo, IsNumbered, IsSingle, float_at, float_apart, numbered, none_yet, first_numbered, past_numbered, first_single, past_single, all_parts}
 use Rattle.wassail_top.specs.Refusals.{why_not_admitted}
-use Rattle.wassail_top.proofs.NotRefuted.{NotRefuted, First, either, first}
+use Rattle.slice_whole.proofs.NotRefuted.{NotRefuted, either}
+use Rattle.wassail_top.proofs.Firsts.{First, first}
 
 -- ---- the parts of a kind
 

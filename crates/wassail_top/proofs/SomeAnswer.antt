@@ -26,7 +26,7 @@ use Rattle.wassail_top.specs.Refusals.{Answer, refused, unless_refused, why_no_c
 use Rattle.run_words.specs.Words.{number_of}
 use Rattle.wassail_top.specs.Queries.{positions_of, why_not_seen}
 use Rattle.wassail_top.specs.Words.{alone, given_of, one, one_or_none, order_of, running, tracing, two, two_and_name}
-use Rattle.wassail_top.proofs.NotRefuted.{NotRefuted}
+use Rattle.slice_whole.proofs.NotRefuted.{NotRefuted}
 use Rattle.wassail_top.proofs.SomeAdmission.{some_admission}
 use Rattle.wassail_top.proofs.SomeDecoding.{some_decoding}
 use Rattle.wassail_top.proofs.SomeSlice.{some_kept_answer, some_slice_answer}

@@ -20,7 +20,8 @@ use Rattle.wasm_decode.proofs.EntryLemmas.{get-within, all-get}
 use Rattle.wasm_decode.proofs.FrameLemmas.{no_sections, sections_more, frame_moves}
 use Rattle.wasm_decode.proofs.StepLemmas.{is_new, read_more, spells_of}
 use Rattle.wassail_top.specs.Refusals.{why_not_decoded}
-use Rattle.wassail_top.proofs.NotRefuted.{NotRefuted, either, first_entry}
+use Rattle.slice_whole.proofs.NotRefuted.{NotRefuted, either}
+use Rattle.wassail_top.proofs.Firsts.{first_entry}
 
 -- ---- sections
 

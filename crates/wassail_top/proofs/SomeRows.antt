@@ -15,9 +15,9 @@ use Rattle.flow_domain.specs.Summaries.{among, asked, place_of}
 use Rattle.flow_domain.specs.Touch.{IsExact}
 use Rattle.wassail_top.specs.Queries.{params_of}
 use Rattle.wassail_top.specs.Summaries.{AreOf, AreRows, RowTest}
-use Rattle.wassail_top.proofs.NotRefuted.{NotRefuted}
-use Rattle.wassail_top.proofs.SomeCover.{some_cover}
-use Rattle.wassail_top.proofs.Tested.{Test, each, places, untrue}
+use Rattle.slice_whole.proofs.NotRefuted.{NotRefuted}
+use Rattle.slice_whole.proofs.SomeCover.{some_cover}
+use Rattle.slice_whole.proofs.Tested.{Test, each, places, untrue}
 
 pub among_less : (before count k : ℕ) → IsSome (among before count k) → k < count
 among_less before count k there = go (nat_lt k count) refl there

@@ -9,7 +9,7 @@ use Rattle.wassail_top.specs.Queries.{why_no_summary}
 use Rattle.wassail_top.specs.Refusals.{Answer}
 use Rattle.wassail_top.specs.RunAnswers.{AnswersUnless}
 use Rattle.wassail_top.specs.Summaries.{RowTest}
-use Rattle.wassail_top.proofs.NotRefuted.{NotRefuted}
+use Rattle.slice_whole.proofs.NotRefuted.{NotRefuted}
 use Rattle.wassail_top.proofs.OneRows.{one_rows}
 use Rattle.wassail_top.proofs.OneSlice.{one_unless}
 use Rattle.wassail_top.proofs.SomeRows.{some_rows}

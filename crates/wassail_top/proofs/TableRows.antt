@@ -33,7 +33,8 @@ use Rattle.summary_fix.proofs.Returning.{rounds_agree, rounds_return}
 use Rattle.wassail_top.specs.Headline.{RowsAgree, RowsReturn}
 use Rattle.wassail_top.specs.Queries.{params_of}
 use Rattle.wassail_top.specs.Summaries.{AreOf, AreRows, IsInputOf, LeavesOut, RowTest}
-use Rattle.wassail_top.proofs.NoCode.{some_of, typed_there}
+use Rattle.slice_whole.proofs.SomeCover.{typed_there}
+use Rattle.wassail_top.proofs.NoCode.{some_of}
 use Rattle.wassail_top.proofs.RunLemmas.{params_are}
 
 -- ---- each function of a valid module has a type

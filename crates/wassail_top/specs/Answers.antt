@@ -16,15 +16,17 @@ use Rattle.wasm_types.specs.declared.module.Body.{Body}
 use Rattle.wasm_types.specs.declared.module.FuncType.{FuncType}
 use Rattle.wasm_types.specs.Spaces.{body_of, type_of_func}
 use Rattle.wasm_types.specs.declared.place.Node.{Node}
-use Rattle.wasm_types.specs.Actions.{callees}
 use Rattle.wasm_types.specs.Code.{code_of, count}
 use Rattle.wasm_types.specs.Canon.{canon}
 use Rattle.wasm_types.specs.WellFormed.{IsU8, ProperName}
 use Rattle.wasm_decode.specs.Decode.{Decodes}
 use Rattle.wasm_validate.specs.Admission as admission
 use Rattle.wasm_validate.specs.Admission.{IsAdmitted}
+use Rattle.flow_domain.specs.Bounds.{Cover}
 use Rattle.flow_domain.specs.Kept.{Tells}
-use Rattle.flow_domain.specs.Sliced.{func_count, IsSliced, KeptAt}
+use Rattle.flow_domain.specs.Sliced.{func_count}
+use Rattle.flow_domain.specs.SlicedFor.{IsSlicedFor, KeptIn}
+use Rattle.flow_domain.specs.Touch.{IsExact}
 use Rattle.wassail_top.specs.Orders.{Order, most_name_bytes}
 use Rattle.wassail_top.specs.Orders.Order.{check, rewrite, list, summary, kept, slice, run, trace}
 use Rattle.wassail_top.specs.Queries.{positions_of, why_no_summary, why_not_kept, why_no_slice, why_not_run, why_not_traced}
@@ -53,7 +55,7 @@ name_of bytes = record { bytes = bytes }
 pub record IsSlicedAs (m : Module) (f i : ℕ) (name : List ℕ) (answer : Answer) : Type 0 where
   pub new : Module
   pub at : ℕ
-  pub sliced : IsSliced m f i (name_of name) new at
+  pub sliced : IsSlicedFor m f i (name_of name) new at
   pub proper : ProperName (name_of name)
   pub short : length name ≤ most_name_bytes
   pub is : answer ≡ slice_answer new (func_count m) at
@@ -64,8 +66,11 @@ pub record IsKeptAs (m : Module) (f i : ℕ) (answer : Answer) : Type 0 where
   pub kind_is : type_of_func m f ≡ Some kind
   pub body : Body
   pub has_body : body_of m f ≡ Some body
+  -- what the functions of m write and touch
+  pub cover : Cover
+  pub cover_is : IsExact m cover
   pub nodes : Node → Bool
-  pub exact : Tells nodes (KeptAt (callees m) kind body i)
+  pub exact : Tells nodes (KeptIn m cover kind body i)
   pub is : answer ≡ bytes_alone (kept_lines nodes (count (code_of body.code)))
 
 -- the lines of the rows of one function, or of each

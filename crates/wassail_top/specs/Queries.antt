@@ -14,7 +14,7 @@ use Rattle.wasm_types.specs.Spaces.{body_of, func_types, type_of_func, mems_of}
 use Rattle.typed_runs.specs.Start.{least}
 use Rattle.module_run.specs.Runs.{most_run_pages}
 use Rattle.module_run.specs.Values.{values_for}
-use Rattle.slice_whole.specs.Slices.{calls_of, count_in, why_not}
+use Rattle.slice_whole.specs.Slices.{count_in, why_not}
 use Rattle.wassail_top.specs.Refusals.{why_no_code, why_not_sliced}
 
 -- ---- positions
@@ -81,13 +81,9 @@ why_not_run m f args = option_or (why_no_code m f) (why_no_run m f args)
 abbrev pub why_not_traced : Module → ℕ → ℕ → List ℤ → Option QueryRefusal
 why_not_traced m f i args = option_or (why_no_code m f) (option_or (why_not_seen m f i) (why_no_run m f args))
 
--- a call stands in live code: what is called isn't followed so far
-abbrev pub why_not_built : Module → ℕ → Option QueryRefusal
-why_not_built m f = if calls_of (body_of m f) then Some of_query.Unbuilt else None
-
 -- why `kept` is refused
 abbrev pub why_not_kept : Module → ℕ → ℕ → Option QueryRefusal
-why_not_kept m f i = option_or (why_no_code m f) (option_or (why_not_seen m f i) (why_not_built m f))
+why_not_kept m f i = option_or (why_no_code m f) (why_not_seen m f i)
 
 -- why `slice` is refused
 abbrev pub why_no_slice : Module → ℕ → ℕ → List ℕ → Option QueryRefusal

@@ -67,5 +67,4 @@ why_not_sliced f i (slice.Imported g) = Some (of_query.Imported g)
 why_not_sliced f i (slice.NoInstruction count) = Some (of_query.NoInstruction i count)
 why_not_sliced f i (slice.Dead p) = Some (of_query.Dead p.0)
 why_not_sliced f i slice.NameTaken = Some of_query.NameTaken
-why_not_sliced f i slice.Unbuilt = Some of_query.Unbuilt
 why_not_sliced f i slice.Memory = None

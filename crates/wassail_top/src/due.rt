@@ -32,13 +32,12 @@ use flow_domain::SummaryTable;
 use module_run::{RunEnd, RunRefusal, run, values_of};
 use outside_io::{ReadEnd, Source, read_all};
 use report_text::{
-    ModuleRefusal, Outcome, QueryRefusal, Refusal, kept_text, list_text, refusal_text, run_text,
-    slice_text, summary_text, valid_text,
+    ModuleRefusal, Outcome, QueryRefusal, Refusal, Spaced, kept_text, list_text, refusal_text,
+    run_text, slice_text, summary_text, valid_text,
 };
-use slice_closure::close_named;
-use slice_whole::{Sliced, calls, slice};
+use slice_whole::{Sliced, kept_named, slice};
 use sqlite_items::Items;
-use stack_names::{Names, names, operand_names};
+use stack_names::{Names, operand_names, value_names};
 use std::alloc::Global;
 use summary_fix::summarise;
 use wasm_decode::decode;
@@ -50,7 +49,7 @@ use wasm_validate::admit;
 #[derive(Drop)]
 pub struct Reply {
     pub status: Status,
-    pub out: Vec<u8>,
+    pub out: Spaced,
     pub err: Vec<u8>,
 }
 
@@ -164,7 +163,7 @@ fn answer_check(alloc: Global) -> Result<Reply, NoMemory>
 {
     Ok(Reply {
         status: Status::Answered,
-        out: valid_text(alloc)?,
+        out: Spaced::of(alloc, valid_text(alloc)?),
         err: Vec::new(alloc),
     })
 }
@@ -177,7 +176,7 @@ fn answer_rewrite(alloc: Global, valid: &ValidModule) -> Result<Reply, NoMemory>
 {
     Ok(Reply {
         status: Status::Answered,
-        out: encode(alloc, valid.module())?,
+        out: Spaced::of(alloc, encode(alloc, valid.module())?),
         err: Vec::new(alloc),
     })
 }
@@ -235,7 +234,7 @@ fn write_summary(
 {
     Ok(Reply {
         status: Status::Answered,
-        out: summary_text(alloc, valid, table, func)?,
+        out: Spaced::of(alloc, summary_text(alloc, valid, table, func)?),
         err: Vec::new(alloc),
     })
 }
@@ -276,7 +275,7 @@ fn answer_trace(
     if let Some(cause) = code_refusal(valid, func) {
         return refuse(alloc, Refusal::Query(cause));
     }
-    let names = names(alloc, valid, func)?;
+    let names = value_names(alloc, valid, func)?;
     if let Some(cause) = sight_refusal(valid, func, &names, at) {
         return refuse(alloc, Refusal::Query(cause));
     }
@@ -333,7 +332,7 @@ fn write_run(alloc: Global, end: RunEnd) -> Result<Reply, NoMemory>
     };
     Ok(Reply {
         status,
-        out: run_text(alloc, &outcome)?,
+        out: Spaced::of(alloc, run_text(alloc, &outcome)?),
         err: Vec::new(alloc),
     })
 }
@@ -346,7 +345,7 @@ fn answer_kept(alloc: Global, valid: &ValidModule, func: u32, at: u32) -> Result
     if let Some(cause) = code_refusal(valid, func) {
         return refuse(alloc, Refusal::Query(cause));
     }
-    let names = names(alloc, valid, func)?;
+    let names = value_names(alloc, valid, func)?;
     if let Some(cause) = sight_refusal(valid, func, &names, at) {
         return refuse(alloc, Refusal::Query(cause));
     }
@@ -354,13 +353,10 @@ fn answer_kept(alloc: Global, valid: &ValidModule, func: u32, at: u32) -> Result
         unreachable!()
     };
     let count = body.count();
-    if calls(body.code.as_slice()) {
-        return refuse(alloc, Refusal::Query(QueryRefusal::Unbuilt));
-    }
-    let kept = close_named(alloc, valid, func, &names, Pos(at))?;
+    let kept = kept_named(alloc, valid, func, &names, Pos(at))?;
     Ok(Reply {
         status: Status::Answered,
-        out: kept_text(alloc, &kept, count)?,
+        out: Spaced::of(alloc, kept_text(alloc, &kept, count)?),
         err: Vec::new(alloc),
     })
 }
@@ -392,7 +388,7 @@ fn write_slice(alloc: Global, sliced: &Sliced) -> Result<Reply, NoMemory>
 {
     Ok(Reply {
         status: Status::Answered,
-        out: encode(alloc, sliced.module.module())?,
+        out: Spaced::of(alloc, encode(alloc, sliced.module.module())?),
         err: slice_text(alloc, sliced.func, sliced.at.0)?,
     })
 }
@@ -423,7 +419,7 @@ fn refuse(alloc: Global, refusal: Refusal) -> Result<Reply, NoMemory>
 {
     Ok(Reply {
         status: Status::of(refusal),
-        out: Vec::new(alloc),
+        out: Spaced::of(alloc, Vec::new(alloc)),
         err: refusal_text(alloc, refusal)?,
     })
 }

@@ -1,7 +1,7 @@
 //! The refusals that the ends of the layers below are: none where an allocation was refused.
 
 ghost use Rattle.std.specs.Prelude.{◌≡◌, ℕ, Bool, None};
-ghost use Rattle.stack_names.specs.Named.{AreNames};
+ghost use Rattle.stack_names.specs.Ends.{HasValues};
 ghost use Rattle.wassail_top.specs.Queries.{why_no_summary, why_not_seen};
 ghost use Rattle.wassail_top.specs.Refusals.{why_no_code, why_not_admitted, why_not_decoded, why_not_sliced};
 
@@ -65,7 +65,7 @@ pub fn summary_refusal(m: &ValidModule, func: Option<u32>) -> Option<QueryRefusa
 /// Why nothing is seen at position `at` of function `func`, which has code and these names: there is no such position, or it is dead.
 pub fn sight_refusal(m: &ValidModule, func: u32, names: &Names, at: u32) -> Option<QueryRefusal>
     requires code { why_no_code m.now func ≡ None }
-    requires names { (w : ℕ → Bool) → AreNames m.now func w names.now }
+    requires names { (w : ℕ → Bool) → HasValues m.now func w names.now }
     ensures { result ≡ why_not_seen m.now func at }
 {
     let Some(body) = m.module().body(func) else {
@@ -92,7 +92,6 @@ pub fn slice_refusal(end: SliceRefusal, func: u32, at: u32) -> Option<QueryRefus
         SliceRefusal::NoInstruction { count } => Some(QueryRefusal::NoInstruction { at, count }),
         SliceRefusal::Dead { at } => Some(QueryRefusal::Dead { at: at.0 }),
         SliceRefusal::NameTaken => Some(QueryRefusal::NameTaken),
-        SliceRefusal::Unbuilt => Some(QueryRefusal::Unbuilt),
         SliceRefusal::Memory => None,
     }
 }

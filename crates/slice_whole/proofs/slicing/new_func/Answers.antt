@@ -11,9 +11,8 @@ use Rattle.flow_domain.specs.KeptSets.{holds}
 use Rattle.stack_repair.proofs.Bodies.{has_own_body}
 use Rattle.stack_repair.proofs.ExactCut.{named_at}
 use Rattle.slice_whole.specs.declared.slicing.SliceRefusal.TheVariants.{NoInstruction}
-use Rattle.slice_whole.specs.Calling.{calls_in}
 use Rattle.slice_whole.specs.Slices.{is_exported}
-use Rattle.slice_whole.proofs.Refused.{Seen, is_own, sealed_few, present_at, type_of_own, own_place, own_within, refuses_import, refuses_position, refuses_dead, refuses_name, refuses_calls, refuses_nothing, seen_site}
+use Rattle.slice_whole.proofs.Refused.{Seen, is_own, sealed_few, present_at, type_of_own, own_place, own_within, refuses_import, refuses_position, refuses_dead, refuses_name, refuses_nothing, seen_site}
 use Rattle.slice_whole.proofs.slicing.new_func.Goals as goal
 
 pub func_count-count-requires : goal.func_count-count-requires
@@ -69,7 +68,7 @@ returns-then-not-live c =
     let many : c.count-positions.result ≡ count (code_of b.code) = c.count-positions.ensures ∙ flat in
     let before = c.if-at-positions.false in
     let a = c.in_ok-names.ensures (nat_eq c.args.at.0) in
-    refuses_dead m c.args.func c.args.at.0 c.args.name.now a.kind b c.in_ok-names.names lt a.kind_is body (omega arith) (named_at m c.args.func c.args.at.0 c.in_ok-names.names a.kind b a a.kind_is has)
+    refuses_dead m c.args.func c.args.at.0 c.args.name.now a.values.kind b c.in_ok-names.names lt a.values.kind_is body (omega arith) (named_at m c.args.func c.args.at.0 c.in_ok-names.names a.values.kind b a a.values.kind_is has)
     (sym c.live.ensures ∙ c.if-not-live.true)
 
 pub returns-then-is_exported : goal.returns-then-is_exported
@@ -87,31 +86,10 @@ returns-then-is_exported c =
     let many : c.count-positions.result ≡ count (code_of b.code) = c.count-positions.ensures ∙ flat in
     let before = c.if-at-positions.false in
     let a = c.in_ok-names.ensures (nat_eq c.args.at.0) in
-    let seen : Seen m c.args.func c.args.at.0 a.kind b c.in_ok-names.names =
-    record { there = lt; type = a.kind_is; body = body; within = omega arith; named = named_at m c.args.func c.args.at.0 c.in_ok-names.names a.kind b a a.kind_is has; live = sym c.live.ensures ∙ c.if-not-live.false } in
+    let seen : Seen m c.args.func c.args.at.0 a.values.kind b c.in_ok-names.names =
+    record { there = lt; type = a.values.kind_is; body = body; within = omega arith; named = named_at m c.args.func c.args.at.0 c.in_ok-names.names a.values.kind b a a.values.kind_is has; live = sym c.live.ensures ∙ c.if-not-live.false } in
     let exports = c.as_slice.ensures ∙ ap (λ (x : Module). x.exports) c.module-module.ensures.same in
-    refuses_name m c.args.func c.args.at.0 c.args.name.now a.kind b c.in_ok-names.names seen (sym (c.is_exported.ensures ∙ ap (λ es. is_exported es c.args.name.now) exports) ∙ c.if-is_exported.true)
-
-pub returns-then-calls : goal.returns-then-calls
-returns-then-calls c =
-    let m = c.args.given.now in
-    let b = c.in-Some.body.now in
-    let body : body_of m c.args.func ≡ Some b = ap (λ (x : Module). body_of x c.args.func) (sym c.module-module.ensures.same) ∙ sym c.in-Some.ensures in
-    let le = is_own m c.args.func b body in
-    let has : HasBody m c.args.func b = has_own_body m c.args.func b le body in
-    let all : func_count c.module-module.result.now ≡ func_count m = ap (λ (x : Module). func_count x) c.module-module.ensures.same in
-    let counted = c.func_count-count.ensures in
-    let below = c.if-func-count.false in
-    let lt : c.args.func < func_count m = omega arith in
-    let flat = length-flatten (code_of b.code) in
-    let many : c.count-positions.result ≡ count (code_of b.code) = c.count-positions.ensures ∙ flat in
-    let before = c.if-at-positions.false in
-    let a = c.in_ok-names.ensures (nat_eq c.args.at.0) in
-    let seen : Seen m c.args.func c.args.at.0 a.kind b c.in_ok-names.names =
-    record { there = lt; type = a.kind_is; body = body; within = omega arith; named = named_at m c.args.func c.args.at.0 c.in_ok-names.names a.kind b a a.kind_is has; live = sym c.live.ensures ∙ c.if-not-live.false } in
-    let exports = c.as_slice.ensures ∙ ap (λ (x : Module). x.exports) c.module-module.ensures.same in
-    refuses_calls m c.args.func c.args.at.0 c.args.name.now a.kind b c.in_ok-names.names seen (sym (c.is_exported.ensures ∙ ap (λ es. is_exported es c.args.name.now) exports) ∙ c.if-is_exported.false)
-    (sym (c.calls.ensures ∙ ap (λ is. calls_in (code_of is)) c.as_slice-2.ensures) ∙ c.if-calls.true)
+    refuses_name m c.args.func c.args.at.0 c.args.name.now a.values.kind b c.in_ok-names.names seen (sym (c.is_exported.ensures ∙ ap (λ es. is_exported es c.args.name.now) exports) ∙ c.if-is_exported.true)
 
 pub unreachable-requires : goal.unreachable-requires
 unreachable-requires c =
@@ -148,24 +126,31 @@ returns c =
     let many : c.count-positions.result ≡ count (code_of b.code) = c.count-positions.ensures ∙ flat in
     let before = c.if-at-positions.false in
     let a = c.in_ok-names.ensures (nat_eq c.args.at.0) in
-    let seen : Seen m c.args.func c.args.at.0 a.kind b c.in_ok-names.names =
-    record { there = lt; type = a.kind_is; body = body; within = omega arith; named = named_at m c.args.func c.args.at.0 c.in_ok-names.names a.kind b a a.kind_is has; live = sym c.live.ensures ∙ c.if-not-live.false } in
+    let seen : Seen m c.args.func c.args.at.0 a.values.kind b c.in_ok-names.names =
+    record { there = lt; type = a.values.kind_is; body = body; within = omega arith; named = named_at m c.args.func c.args.at.0 c.in_ok-names.names a.values.kind b a a.values.kind_is has; live = sym c.live.ensures ∙ c.if-not-live.false } in
     let exports = c.as_slice.ensures ∙ ap (λ (x : Module). x.exports) c.module-module.ensures.same in
     let same = ap (λ (x : Module). x.funcs) c.module-module.ensures.same in
     let long = c.len.ensures ∙ ap length same in
     let place = own_place m c.args.func le c.len.result c.func_count-count.result long (counted ∙ all) in
     let type : slice_get m.funcs (c.args.func - import_count m) ≡ Some c.in-Some-get.kind.now =
     ap (slice_get m.funcs) place ∙ ap (λ fs. slice_get fs (c.args.func + c.len.result - c.func_count-count.result)) (sym same) ∙ sym c.in-Some-get.ensures.value in
-    let site = seen_site m c.args.func c.args.at.0 a.kind b c.in_ok-names.names seen in (
-      refuses_nothing m c.args.func c.args.at.0 c.args.name.now a.kind b c.in_ok-names.names seen (sym (c.is_exported.ensures ∙ ap (λ es. is_exported es c.args.name.now) exports) ∙ c.if-is_exported.false)
-          (sym (c.calls.ensures ∙ ap (λ is. calls_in (code_of is)) c.as_slice-2.ensures) ∙ c.if-calls.false),
+    let site = seen_site m c.args.func c.args.at.0 a.values.kind b c.in_ok-names.names seen in (
+      refuses_nothing m c.args.func c.args.at.0 c.args.name.now a.values.kind b c.in_ok-names.names seen (sym (c.is_exported.ensures ∙ ap (λ es. is_exported es c.args.name.now) exports) ∙ c.if-is_exported.false),
       record {
-        own = record { type = c.in-Some-get.kind.now; own = (le, type); kind = a.kind; kind_is = type_of_own m c.module-module.ensures.sealed.valid c.args.func c.in-Some-get.kind.now a.kind (le, type) a.kind_is; body = b; has_body = has };
+        own = record { type = c.in-Some-get.kind.now; own = (le, type); kind = a.values.kind; kind_is = type_of_own m c.module-module.ensures.sealed.valid c.args.func c.in-Some-get.kind.now a.values.kind (le, type) a.values.kind_is; body = b; has_body = has };
         type_is = refl;
         site = site.0;
         live = site.1;
+        cover = c.in_ok-kept.ensures.cover;
+        cover_is = c.in_ok-kept.ensures.cover_is;
         kept = holds c.in_ok-kept.kept;
-        exact = c.in_ok-kept.ensures a.kind b a.kind_is has;
+        keeps = c.in_ok-kept.ensures.keeps a.values.kind b a.values.kind_is has;
         cut = c.in_ok-body.ensures;
       },
     )
+
+pub kept_named-requires-clause-sealed : goal.kept_named-requires-clause-sealed
+kept_named-requires-clause-sealed c = c.module-module.ensures.sealed
+
+pub kept_named-requires-clause-names : goal.kept_named-requires-clause-names
+kept_named-requires-clause-names c = λ w. (c.in_ok-names.ensures w).values

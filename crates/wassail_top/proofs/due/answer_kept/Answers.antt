@@ -1,20 +1,15 @@
-use Rattle.std.proofs.Common.{◌≡◌, ◌∙◌, ℕ, Bool, false, List, Some, None, Option, ap, ap₂, sym}
+use Rattle.std.proofs.Common.{◌≡◌, ◌∙◌, ℕ, List, Option, Some, None, ap, ap₂, sym}
 use Rattle.std.specs.Option.{option_or}
-use Rattle.std.specs.Prelude.{if◌then◌else◌}
 use Rattle.report_text.specs.KeptTexts.{kept_lines}
 use Rattle.report_text.specs.declared.refusal.QueryRefusal.{QueryRefusal}
-use Rattle.report_text.specs.declared.refusal.QueryRefusal.TheVariants as of_query
 use Rattle.report_text.proofs.NamedLemmas.{own_body}
-use Rattle.wasm_types.specs.declared.module.Body.{Body}
 use Rattle.wasm_types.specs.declared.module.Module.{Module}
 use Rattle.wasm_types.specs.Code.{code_of, count}
 use Rattle.wasm_types.specs.Spaces.{body_of, HasBody}
 use Rattle.wasm_types.proofs.CodeLemmas.{length-flatten}
 use Rattle.flow_domain.specs.KeptSets.{holds}
-use Rattle.slice_whole.specs.Calling.{calls_in}
-use Rattle.slice_whole.specs.Slices.{calls_of}
 use Rattle.wassail_top.specs.Answers.{IsKeptAs}
-use Rattle.wassail_top.specs.Queries.{why_not_built, why_not_kept, why_not_seen}
+use Rattle.wassail_top.specs.Queries.{why_not_kept, why_not_seen}
 use Rattle.wassail_top.specs.Refusals.{Answer, why_no_code}
 use Rattle.wassail_top.proofs.NoCode.{has_code, has_type}
 use Rattle.wassail_top.proofs.Unless.{taken}
@@ -32,12 +27,7 @@ returns c =
     let own : body_of m f ≡ Some b = ap (λ (n : Module). body_of n f) (sym c.module.ensures.same) ∙ sym c.in-Some-body.ensures in
     let code : why_no_code m f ≡ None = sym c.in_default.ensures in
     let seen : why_not_seen m f c.args.at ≡ None = sym c.sight_refusal.ensures ∙ c.in_default-sight_refusal.is in
-    let silent : calls_in (code_of b.code) ≡ false = ap (λ k. calls_in (code_of k)) (sym c.as_slice.ensures) ∙ sym c.if-calls.ensures in
-    let built : why_not_built m f ≡ None =
-    ap (λ (o : Option Body). if calls_of o then Some of_query.Unbuilt else None) own ∙ ap (λ (q : Bool). if q then Some of_query.Unbuilt else None) silent in
-    let none : why_not_kept m f c.args.at ≡ None =
-    ap (λ (w : Option QueryRefusal). option_or w (option_or (why_not_seen m f c.args.at) (why_not_built m f))) code
-    ∙ ap (λ (w : Option QueryRefusal). option_or w (why_not_built m f)) seen ∙ built in
+    let none : why_not_kept m f c.args.at ≡ None = ap (λ (w : Option QueryRefusal). option_or w (why_not_seen m f c.args.at)) code ∙ seen in
     let kind = has_type m f c.requires.admitted.valid code in
     let has : HasBody m f b = ((has_code m f code).0, own_body m f b own) in
     let many : c.count-count.result ≡ count (code_of b.code) = c.count-count.ensures ∙ length-flatten (code_of b.code) in
@@ -46,7 +36,9 @@ returns c =
       kind_is = kind.1;
       body = b;
       has_body = own;
+      cover = c.in_ok-kept.ensures.cover;
+      cover_is = c.in_ok-kept.ensures.cover_is;
       nodes = holds c.in_ok-kept.kept;
-      exact = c.in_ok-kept.ensures kind.0 b kind.1 has;
-      is = ap₂ {A = List ℕ} {B = List ℕ} both (c.in_ok-kept_text.ensures ∙ ap (kept_lines (holds c.in_ok-kept.kept)) many) c.new.ensures.items;
+      exact = (c.in_ok-kept.ensures.keeps kind.0 b kind.1 has).exact;
+      is = ap₂ {A = List ℕ} {B = List ℕ} both (c.of.ensures ∙ c.in_ok-kept_text.ensures ∙ ap (kept_lines (holds c.in_ok-kept.kept)) many) c.new.ensures.items;
     })

@@ -3,7 +3,7 @@ use Rattle.std.proofs.Common.{◌≡◌, ◌↔◌, ◌⊎◌, ◌<◌, ◌≤�
 use Rattle.std.proofs.lemmas.Bool.{cases_lt}
 use Rattle.wasm_types.specs.declared.place.Loc.{Loc}
 use Rattle.wasm_types.specs.declared.place.Loc.TheVariants.{Local, Global, Mem, Size, Host}
-use Rattle.wassail_top.proofs.NotRefuted.{NotRefuted, either}
+use Rattle.slice_whole.proofs.NotRefuted.{NotRefuted, either}
 
 -- a test of a fact
 abbrev pub Test : Type 0 → Type 0

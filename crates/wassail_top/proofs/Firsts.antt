@@ -1,16 +1,10 @@
--- Facts that aren't refuted (double negation): a fact holds or doesn't, and of finitely many numbers one is the first at which it doesn't, if there is one.
+-- Of finitely many numbers one is the first at which a fact doesn't hold, if there is one: that isn't refuted.
 use Rattle.std.proofs.Common.{◌≡◌, ◌<◌, ◌⊎◌, ℕ, zero, suc, List, length, get_or, Option, Some, None, inl, inr, refl, subst, arith}
 use Rattle.std.specs.Prelude.{All, slice_get}
 use Rattle.std.proofs.lemmas.Bool.{cases_lt}
 use Rattle.std.proofs.lemmas.Option.{slice_get-get_or}
 use Rattle.wasm_decode.specs.Entries.{FirstNot}
-
--- what follows from P to a contradiction is a contradiction
-abbrev pub NotRefuted : Type 0 → Type 0
-NotRefuted P = (P → ⊥) → ⊥
-
-pub either : (P : Type 0) → NotRefuted (P ⊎ (P → ⊥))
-either P never = never (inr (λ p. never (inl p)))
+use Rattle.slice_whole.proofs.NotRefuted.{NotRefuted, either}
 
 -- P holds below n, or it doesn't at a number and holds below that
 abbrev pub First : (ℕ → Type 0) → ℕ → Type 0

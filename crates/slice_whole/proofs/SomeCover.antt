@@ -1,5 +1,5 @@
 -- The sets of locations that callees write and touch have tests.
-use Rattle.std.proofs.Common.{◌≡◌, ℕ, Option, Some, None, length, refl, arith}
+use Rattle.std.proofs.Common.{◌≡◌, ℕ, ◌<◌, Option, Some, None, length, slice_get, refl, arith}
 use Rattle.std.proofs.lemmas.Option.{slice_get_within}
 use Rattle.wasm_types.specs.declared.module.FuncType.{FuncType}
 use Rattle.wasm_types.specs.declared.module.Module.{Module}
@@ -8,7 +8,7 @@ use Rattle.wasm_types.specs.declared.place.Loc.TheVariants.{Local, Global}
 use Rattle.wasm_types.specs.Actions.{Callee, Own, Through}
 use Rattle.wasm_types.specs.Funcs.{Func, func_of}
 use Rattle.wasm_types.specs.Hosts.{HostFunc, IsFunction, host_from, host_of}
-use Rattle.wasm_types.specs.Spaces.{func_types, globals_of, type_of_func}
+use Rattle.wasm_types.specs.Spaces.{func_types, globals_of, type_numbered, type_of_func}
 use Rattle.wasm_types.specs.Subset.{IsSealed}
 use Rattle.flow_domain.specs.Bounds.{Cover}
 use Rattle.flow_domain.specs.Reach as reach
@@ -17,14 +17,20 @@ use Rattle.flow_domain.specs.Rows.{Target}
 use Rattle.flow_domain.specs.Touch as touch
 use Rattle.flow_domain.specs.Touch.{CalleeTouches, IsExact, MayTouch}
 use Rattle.stack_repair.proofs.Bodies.{valid_has_heights}
-use Rattle.func_flow.specs.Items.{IsLoc}
-use Rattle.func_flow.proofs.Known.{may_touch_known, may_write_known}
+use Rattle.called_rows.specs.Locs.{IsLoc}
+use Rattle.called_rows.proofs.Known.{may_touch_known, may_write_known}
 use Rattle.summary_fix.proofs.Owned.{host_parts, parts}
-use Rattle.wassail_top.proofs.NoCode.{typed_there}
-use Rattle.wassail_top.proofs.NotRefuted.{NotRefuted}
-use Rattle.wassail_top.proofs.Tested.{Test, each, places, untrue}
+use Rattle.slice_whole.proofs.NotRefuted.{NotRefuted}
+use Rattle.slice_whole.proofs.Tested.{Test, each, places, untrue}
 
 -- ---- what writes and touches is a function of the module
+
+pub typed_there : (m : Module) (f : ℕ) (t : FuncType) → type_of_func m f ≡ Some t → IsFunction m f
+typed_there m f t e = go (slice_get (func_types m) f) refl e
+  where
+    go : (o : Option ℕ) → slice_get (func_types m) f ≡ o → type_numbered m.types o ≡ Some t → f < length (func_types m)
+    go None at has = absurd cc
+    go (Some k) at has = slice_get_within (func_types m) f k at
 
 own_there : (m : Module) (f : ℕ) (F : Func) → func_of m f ≡ Some F → IsFunction m f
 own_there m f F is = (parts m f F is).within
