@@ -69,6 +69,8 @@ class Browser:
         self.session = self.ask("Target.attachToTarget", targetId=target, flatten=True)["sessionId"]
         for domain in ("Page", "Runtime", "Log", "Network"):
             self.ask(f"{domain}.enable")
+        # In the processor's time, which doesn't grow while the machine does other work.
+        self.ask("Performance.enable", timeDomain="threadTicks")
 
     def close(self):
         try:
@@ -132,6 +134,10 @@ class Browser:
             raise AssertionError(f"{expression}: {answer['exceptionDetails']}")
         return answer["result"].get("value")
 
+    def measures(self):
+        """What the page has taken so far, and how much there is of it, by name."""
+        return {one["name"]: one["value"] for one in self.ask("Performance.getMetrics")["metrics"]}
+
     def press(self, key):
         """Presses a key that writes a letter."""
         for kind in ("keyDown", "keyUp"):
@@ -140,6 +146,8 @@ class Browser:
     def follow(self, link):
         """Goes where a link within the page leads, as a click does, and waits until the page has moved."""
         self.told(f"location.hash = ''; scrollTo(0, 0); document.querySelector('a[href=\"{link}\"]').click()")
+        # A page may bring a line back that others have moved: two frames for each settling.
+        self.settle()
         self.settle()
 
     def settle(self):

@@ -55,6 +55,22 @@ class InFolder(unittest.TestCase):
         path.write_bytes(data)
         return path
 
+    def ready_program(self, functions):
+        """A program that has the rows of a module with so many functions ready, five of each."""
+        rows = self.folder / "rows"
+        outputs = ("result", "g0", "mem", "size", "done")
+        rows.write_text("".join(f"f {number} {output} <- p0 p1 g0 mem size\n" for number in range(functions) for output in outputs))
+        ready = self.written(f"#!/bin/sh\n[ $1 = check ] && echo valid || exec cat {rows}\n".encode(), "ready")
+        ready.chmod(0o755)
+        return ready
+
+    def without_slices(self):
+        """A program that is refused the memory for kept sets and slices."""
+        line = "wassail: an allocation was refused"
+        script = self.written(f"#!/bin/sh\ncase $1 in kept|slice) echo '{line}' >&2; exit 5;; esac\nexec '{STUB}' \"$@\"\n".encode(), "without")
+        script.chmod(0o755)
+        return script
+
     def assert_one_line(self, ended, status, holds):
         """It ended with the status and one line on standard error, which holds the text, and nothing on standard output."""
         self.assertEqual((ended.status, ended.output), (status, ""), ended.error)

@@ -121,10 +121,7 @@ class Overview(InFolder):
 
     def test_two_thousand_functions_in_a_second(self):
         """A second of processor time for the page and its picture. What answers has the rows ready, ten thousand of them."""
-        rows = self.folder / "rows"
-        rows.write_text("".join(f"f {number} {output} <- p0 p1 g0 mem size\n" for number in range(2000) for output in ("result", "g0", "mem", "size", "done")))
-        ready = self.written(f"#!/bin/sh\n[ $1 = check ] && echo valid || exec cat {rows}\n".encode(), "ready")
-        ready.chmod(0o755)
+        ready = self.ready_program(2000)
         begun = processor_time()
         text = self.page_of(samples.many(2000), program=ready)[1]
         self.assertLess(processor_time() - begun, 1.0)

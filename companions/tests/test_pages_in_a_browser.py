@@ -107,6 +107,12 @@ class PagesInABrowser(InFolder):
         self.compare_marks(STUB, data, 0, 6)
         self.look("view-zeros")
 
+    def test_a_slice_through_calls(self):
+        data = samples.library()
+        self.opened("view", data, "print", "9")
+        self.compare_marks(STUB, data, 2, 9)
+        self.look("view-calls")
+
     def test_keys(self):
         self.opened("view", samples.countdown(), "count", "13", height=300)
         where = "document.activeElement.closest('tr').id"
@@ -169,6 +175,24 @@ class PagesInABrowser(InFolder):
         self.assertEqual(self.told("[filter.value, document.querySelectorAll('tr.away').length]"), ["", 0])
         self.assertEqual(self.browser.complaints(), [])
 
+    def test_two_thousand_functions_in_a_second(self):
+        """A second of processor time for all that the page does to open. Of lines out of sight nothing is laid out but their height."""
+        browser = Browser()
+        self.addCleanup(browser.close)
+        page = self.folder / "many.html"
+        said = companion("overview", self.written(samples.many(2000)), "-o", page, program=self.ready_program(2000))
+        self.assertEqual((said.status, said.output), (0, ""), said.error)
+        browser.open(page)
+        measures = browser.measures()
+        self.assertLess(measures["TaskDuration"], 1.0)
+        self.assertLess(measures["LayoutObjects"], 5 * 2000)
+        # They are there all the same: a link leads to one, and their texts are found.
+        browser.told("location.hash = 'f1500'")
+        browser.settle()
+        self.assertTrue(browser.told(f"{IS_ON_TOP}('f1500')"))
+        self.assertTrue(browser.told("find('function_700')"))
+        self.assertEqual(browser.told("document.querySelectorAll('#functions tbody tr').length"), 2000)
+
     def test_names_run_nothing(self):
         for script, words in (("view", ["0", "0"]), ("overview", [])):
             self.opened(script, samples.hostile(), *words)
@@ -179,7 +203,7 @@ class PagesInABrowser(InFolder):
         self.opened("overview", samples.invalid())
         self.assertIn("wassail: module refused: invalid function 0", self.told("document.body.innerText"))
         self.look("overview-refused")
-        self.opened("view", samples.library(), "print", "9")
+        self.opened("view", samples.library(), "print", "9", program=self.without_slices())
         self.look("view-refused")
 
     def test_on_paper(self):
@@ -189,12 +213,18 @@ class PagesInABrowser(InFolder):
         try:
             self.assertEqual(self.told("Array.from(document.querySelectorAll('.controls'), one => getComputedStyle(one).display)").count("none"), 3)
             self.assertEqual(self.told("getComputedStyle(document.querySelector('#rows th')).position"), "static")
+            # On paper the functions are a table's rows, of which none is left out and whose head is repeated.
+            self.opened("overview", samples.library())
+            parts = "['#functions', '#functions thead', '#functions tbody tr', '#functions td']"
+            kinds = f"{parts}.map(one => getComputedStyle(document.querySelector(one)).display)"
+            self.assertEqual(self.told(kinds), ["table", "table-header-group", "table-row", "table-cell"])
+            self.assertEqual(self.told("getComputedStyle(document.querySelector('#functions tbody tr')).contentVisibility"), "visible")
         finally:
             self.browser.ask("Emulation.setEmulatedMedia", media="")
 
     @needs_program()
     def test_the_built_program(self):
-        for data, function, position in ((samples.countdown(), 0, 13), (samples.zeros(), 0, 6)):
+        for data, function, position in ((samples.countdown(), 0, 13), (samples.zeros(), 0, 6), (samples.library(), 2, 9)):
             self.opened("view", data, function, position, program=BUILT)
             self.compare_marks(BUILT, data, function, position)
 

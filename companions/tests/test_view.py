@@ -142,6 +142,12 @@ class Reasons(unittest.TestCase):
         self.assertEqual((why["0"], why["2"]), (["argument of the call at 2"], ["operand of 3"]))
         self.assertEqual(why["4"], ["writes what kept positions depend on"])
 
+    def test_globals_that_a_call_may_read(self):
+        text = "0 i32.const 4\n1 global.set 0 <- 0\n2 global.get 0\n3 drop <- 2\n4 call 2\n. end\n"
+        self.assertEqual(self.why(text, "0 1 2 3", 3)["1"], ["writes global 0, which is read at 2"])
+        self.assertEqual(self.why(text, "0 1 2 3 4", 3)["1"], ["writes global 0, which may be read at 2 4"])
+        self.assertEqual(self.why(text, "0 1 4", 4)["1"], ["writes global 0, which may be read at 4"])
+
     def test_both_arms(self):
         why = self.why(ARMS, "0 1 j1 2 5 6", 6)
         self.assertEqual((why["2"], why["5"], why["j1"]), (["value at the end of 1"], ["value at the end of 1"], ["operand of 6"]))
@@ -168,9 +174,9 @@ class Offsets(InFolder):
 
 
 class View(InFolder):
-    def page_of(self, data, *words):
+    def page_of(self, data, *words, **more):
         out = self.folder / "view.html"
-        said = companion("view", self.written(data), *words[:2], "-o", out, *words[2:])
+        said = companion("view", self.written(data), *words[:2], "-o", out, *words[2:], **more)
         self.assertEqual((said.status, said.output), (0, ""), said.error)
         return said, out.read_text(encoding="utf-8")
 
@@ -211,17 +217,25 @@ class View(InFolder):
         self.assertEqual(sets, ["local.set 0 (left) <- 12", "local.set 0 (left) <- 7"])
         self.assertIn((f"function 0 {samples.HOSTILE}", STRONG), self.texts_of(samples.hostile(), "0", "0"))
 
+    def test_a_slice_through_calls(self):
+        """Of the function's two calls the one is kept whose answer is stored, and what it takes; the other is cut."""
+        _, text = self.page_of(samples.library(), "print", "9")
+        marks = {row[1]: row[0].split()[0] for _, row in Page(text).rows if len(row) == 10 and row[1].isdigit() and row[0]}
+        self.assertEqual(marks, {position: "▶" if position == "9" else "●" for position in "012356789"})
+        self.assertIn(["● kept", "7", "000084", "call 1 length", "6", "operand of 8"], [row[:6] for _, row in Page(text).rows])
+        self.assertNotIn("query refused", text)
+
     def test_no_picture_without_a_slice(self):
         out = self.folder / "view.svg"
-        said, _ = self.page_of(samples.library(), "print", "9", "--picture", out)
+        said, _ = self.page_of(samples.library(), "print", "9", "--picture", out, program=self.without_slices())
         self.assertIn("view: there is no picture, since there is no slice", said.error)
         self.assertFalse(out.exists())
 
     def test_a_refused_slice_is_shown(self):
-        said, text = self.page_of(samples.library(), "print", "9")
-        if "query refused: not built yet" in said.error:
-            self.assertIn("query refused: not built yet", Page(text).text)
-            self.assertNotIn("in the slice", Page(text).text)
+        said, text = self.page_of(samples.library(), "print", "9", program=self.without_slices())
+        self.assertIn("view: slice: wassail: an allocation was refused", said.error)
+        self.assertIn("wassail: an allocation was refused", Page(text).text)
+        self.assertNotIn("in the slice", Page(text).text)
 
     def test_arguments_that_do_not_fit(self):
         said, text = self.page_of(samples.countdown(), "count", "13", "--args")

@@ -13,6 +13,7 @@ from .structure import OPENERS, Placed, carried_to
 
 BRANCHES = ("br", "br_if", "br_table", "return")
 CALLS = ("call", "call_indirect")
+CALLED = ("call", "")
 READERS = {"local.set": ("local.get",), "local.tee": ("local.get",), "global.set": ("global.get",)}
 
 
@@ -76,11 +77,13 @@ def _needed(line: ListingLine, is_criterion: bool) -> tuple[str, ...]:
 
 
 def _kept_reads(placed: list[Placed], kept: set[str]) -> dict[tuple[str, str], list[str]]:
-    """The kept positions that get a local or global, by the instruction and its number."""
+    """The kept positions that get a local or global, by the instruction and its number, and those that call."""
     reads: dict[tuple[str, str], list[str]] = {}
     for one in placed:
         if str(one.line.position) in kept and one.line.operation in ("local.get", "global.get"):
             reads.setdefault((one.line.operation, one.line.immediates[0]), []).append(str(one.line.position))
+        elif str(one.line.position) in kept and one.line.operation in CALLS:
+            reads.setdefault(CALLED, []).append(str(one.line.position))
     return reads
 
 
@@ -91,5 +94,8 @@ def _by_elimination(line: ListingLine, reads: dict[tuple[str, str], list[str]]) 
     if line.operation in READERS:
         variable = f"{line.operation.split('.')[0]} {line.immediates[0]}"
         nodes = [node for reader in READERS[line.operation] for node in reads.get((reader, line.immediates[0]), [])]
+        # What the functions called read doesn't stand in the listing.
+        if line.operation == "global.set" and CALLED in reads:
+            return f"writes {variable}, which may be read at", nodes + reads[CALLED]
         return f"writes {variable}, which is read at" if nodes else f"writes {variable}", nodes
     return "writes what kept positions depend on", []

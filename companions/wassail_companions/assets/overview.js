@@ -1,9 +1,11 @@
 (function () {
   var table = document.getElementById('functions'), body = table.tBodies[0], rows = Array.prototype.slice.call(body.rows);
   var filter = document.getElementById('filter'), told = document.getElementById('told');
-  var texts = rows.map(function (row) { return (row.cells[0].textContent + ' ' + (row.cells[1].title || row.cells[1].textContent)).toLowerCase(); });
+  var texts = null;
   function apply() {
     var wanted = filter.value.trim().toLowerCase(), shown = 0;
+    if (wanted === '' && !texts) { told.textContent = rows.length + ' of ' + rows.length + ' functions'; return; }
+    texts = texts || rows.map(function (row) { return (row.cells[0].textContent + ' ' + (row.cells[1].title || row.cells[1].textContent)).toLowerCase(); });
     rows.forEach(function (row, index) {
       var away = wanted !== '' && texts[index].indexOf(wanted) < 0;
       row.classList.toggle('away', away);
@@ -47,9 +49,18 @@
   }
   document.getElementById('open').addEventListener('click', function () { open(true); });
   document.getElementById('close').addEventListener('click', function () { open(false); });
-  window.addEventListener('hashchange', function () {
+  // Lines that come into sight may be higher than was reckoned, and move the one that a link leads to: it is brought back.
+  function bring(row, times) {
+    row.scrollIntoView();
+    if (times) requestAnimationFrame(function () { bring(row, times - 1); });
+  }
+  function follow() {
     var found = document.getElementById(location.hash.slice(1));
-    if (found && found.classList.contains('away')) { filter.value = ''; apply(); found.scrollIntoView(); }
-  });
+    if (!found || !body.contains(found)) return;
+    if (found.classList.contains('away')) { filter.value = ''; apply(); }
+    bring(found, 3);
+  }
+  window.addEventListener('hashchange', follow);
   apply();
+  follow();
 })();
