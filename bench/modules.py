@@ -110,6 +110,11 @@ def many_locals(sets, locals_=8192):
     return HEADER + section(1, counted([b"\x60\x00\x00"])) + section(3, counted([b"\0"])) + section(10, counted([sized(body)]))
 
 
+def nops(count):
+    """One function `() -> ()` of so many `nop`."""
+    return HEADER + section(1, counted([b"\x60\x00\x00"])) + section(3, counted([b"\0"])) + section(10, counted([sized(b"\0" + b"\x01" * count + b"\x0b")]))
+
+
 def calling(type_, bodies, in_table=False, globals_=0):
     """One type, a function of it for each body (locals and code), all of them in a table where that is asked for, and so many mutable i32 globals."""
     count = len(bodies)
