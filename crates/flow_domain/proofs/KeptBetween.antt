@@ -7,7 +7,7 @@ use Rattle.wasm_types.specs.Nodes.{At}
 use Rattle.wasm_types.specs.Reaching.{Writes}
 use Rattle.wasm_types.specs.Sites.{DoHead, Site, Sites, IsSite, EndAt}
 use Rattle.flow_domain.specs.Bounds.{Bounds, called, written_by}
-use Rattle.flow_domain.specs.Keeping.{KeptItem, criterion, criterion_operand, completes, whole, operand, using, argument, place, writer, deciding, carrying, ending, holding_at, holding_join, own_join}
+use Rattle.flow_domain.specs.Kept.{KeptItem, criterion, criterion_operand, completes, whole, operand, using, argument, place, writer, deciding, carrying, ending, holding_at, holding_join, own_join}
 use Rattle.flow_domain.specs.Rows.{Output, Final, CallRows, Item, Makes}
 
 -- what a kept node may be asked for: its value, that it completes, or a location that it writes

@@ -1,40 +1,38 @@
--- What is proved of kept sets: each is the least of the closed sets. Tables are told by tests here, since a law ranges over no properties.
-use Rattle.std.specs.Prelude.{◌≡◌, ℕ, List, Bool, true}
-use Rattle.wasm_types.specs.declared.module.FuncType.{FuncType}
-use Rattle.wasm_types.specs.declared.module.Body.{Body}
+-- What is proved of kept sets: each is the least of the closed sets.
+use Rattle.std.specs.Prelude.{◌≡◌, List, Bool, true}
+use Rattle.wasm_types.specs.declared.module.Module.{Module}
 use Rattle.wasm_types.specs.declared.place.Loc.{Loc}
-use Rattle.wasm_types.specs.declared.place.Node.{Node}
-use Rattle.wasm_types.specs.Actions.{Callees}
-use Rattle.wasm_types.specs.Reaching.{Table, WritesAt}
+use Rattle.wasm_types.specs.Actions.{Callee}
 use Rattle.wasm_types.specs.Sites.{Sites, EndAt}
-use Rattle.flow_domain.specs.Kept.{Kept, IsClosed, Tells}
-use Rattle.flow_domain.specs.Sliced.{sites_at, ends_at, UsesAt, no_calls, KeptAt}
+use Rattle.flow_domain.specs.Bounds.{Bounds, Cover, bounds}
+use Rattle.flow_domain.specs.Kept.{KeptItem, IsClosed}
+use Rattle.flow_domain.specs.Rows.{CallRows, Item, Output}
+use Rattle.flow_domain.specs.Sliced.{rows_in}
 
--- the table that a test tells
-abbrev pub table : (ℕ → Loc → Bool) → Table
-table w p x = w p x ≡ true
-
--- the kept set lies in every closed set
-abbrev pub KeptIsLeast : Type 0
-KeptIsLeast =
-    (cs : Callees) (w u : ℕ → Loc → Bool) (S : Sites) (ends : List EndAt) (K : Node → Bool)
-    → IsClosed cs (table w) (table u) S ends K → (n : Node) → Kept cs (table w) (table u) S ends n → K n ≡ true
+-- by these rows the kept set lies in every closed set
+abbrev pub IsLeastBy : Bounds → CallRows → Type 0
+IsLeastBy B R = (S : Sites) (ends : List EndAt) (K : Item → Bool) → IsClosed B R S ends K → (x : Item) → KeptItem B R S ends x → K x ≡ true
 
 -- and is one itself
+abbrev pub IsClosedBy : Bounds → CallRows → Type 0
+IsClosedBy B R =
+    (S : Sites) (ends : List EndAt) (K : Item → Bool) → ((x : Item) → (K x ≡ true → KeptItem B R S ends x) × (KeptItem B R S ends x → K x ≡ true))
+    → IsClosed B R S ends K
+
+-- the rows that a test tells, since a law ranges over no properties
+abbrev pub rows_by : (Callee → Output → Loc → Bool) → CallRows
+rows_by row g out x = row g out x ≡ true
+
+-- the kept set, whatever the rows are
+abbrev pub KeptIsLeast : Type 0
+KeptIsLeast = (B : Bounds) (row : Callee → Output → Loc → Bool) → IsLeastBy B (rows_by row)
+
 abbrev pub KeptIsClosed : Type 0
-KeptIsClosed =
-    (cs : Callees) (w u : ℕ → Loc → Bool) (S : Sites) (ends : List EndAt) (K : Node → Bool)
-    → Tells K (Kept cs (table w) (table u) S ends) → IsClosed cs (table w) (table u) S ends K
+KeptIsClosed = (B : Bounds) (row : Callee → Output → Loc → Bool) → IsClosedBy B (rows_by row)
 
--- closed for position i of a body of this type
-abbrev pub IsClosedAt : Callees → FuncType → Body → ℕ → (Node → Bool) → Type 0
-IsClosedAt cs t b i K =
-    let S = sites_at cs t b i in
-    IsClosed cs (WritesAt cs no_calls S) (UsesAt cs no_calls S) S (ends_at cs t b i) K
-
--- the same of the kept sets that slices are made by
+-- the kept sets of a module, which slices are made by
 abbrev pub SlicedKeptIsLeast : Type 0
-SlicedKeptIsLeast = (cs : Callees) (t : FuncType) (b : Body) (i : ℕ) (K : Node → Bool) → IsClosedAt cs t b i K → (n : Node) → KeptAt cs t b i n → K n ≡ true
+SlicedKeptIsLeast = (m : Module) (W : Cover) → IsLeastBy (bounds m W) (rows_in m W)
 
 abbrev pub SlicedKeptIsClosed : Type 0
-SlicedKeptIsClosed = (cs : Callees) (t : FuncType) (b : Body) (i : ℕ) (K : Node → Bool) → Tells K (KeptAt cs t b i) → IsClosedAt cs t b i K
+SlicedKeptIsClosed = (m : Module) (W : Cover) → IsClosedBy (bounds m W) (rows_in m W)

@@ -2,10 +2,8 @@ pub mod Cut
 pub mod Presence
 pub mod Heights
 pub mod Kept
-pub mod Keeping
 pub mod KeptSets
 pub mod Sliced
-pub mod SlicedFor
 pub mod Bounds
 pub mod Law
 pub mod Rows

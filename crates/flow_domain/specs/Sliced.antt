@@ -1,5 +1,5 @@
 -- The sliced module of a function, an instruction and a name (docs/ANALYSES.md, "The sliced module").
-use Rattle.std.specs.Prelude.{◌≡◌, ℕ, ◌⊎◌, List, [], ◌∷◌, ◌++◌, length, Option, Bool, Some, slice_get, nat_eq}
+use Rattle.std.specs.Prelude.{◌≡◌, ℕ, List, [], ◌∷◌, ◌++◌, length, Option, Bool, Some, slice_get, nat_eq}
 use Rattle.wasm_types.specs.declared.module.ValType.{ValType}
 use Rattle.wasm_types.specs.declared.module.FuncType.{FuncType}
 use Rattle.wasm_types.specs.declared.module.Name.{Name}
@@ -7,7 +7,6 @@ use Rattle.wasm_types.specs.declared.module.ExportKind.TheVariants as export
 use Rattle.wasm_types.specs.declared.module.Export.{Export}
 use Rattle.wasm_types.specs.declared.module.Body.{Body}
 use Rattle.wasm_types.specs.declared.module.Module.{Module}
-use Rattle.wasm_types.specs.declared.place.Loc.{Loc}
 use Rattle.wasm_types.specs.declared.place.Node.{Node}
 use Rattle.wasm_types.specs.Code.{code_of, list_of}
 use Rattle.wasm_types.specs.Marked.{Marked, marked, unmarked, watched_at}
@@ -16,11 +15,13 @@ use Rattle.wasm_types.specs.Typing.{Context}
 use Rattle.wasm_types.specs.Actions.{Callees, callees}
 use Rattle.wasm_types.specs.Locations.{OfCalls}
 use Rattle.wasm_types.specs.Sites.{Site, Sites, IsSite, EndAt, body_sites, body_ends}
-use Rattle.wasm_types.specs.Reaching.{HeadReads, HeadChecks, WritesAt}
 use Rattle.wasm_types.specs.Places.{TypesPlaces}
-use Rattle.flow_domain.specs.Kept.{Kept, Tells}
+use Rattle.flow_domain.specs.Bounds.{Cover, bounds}
+use Rattle.flow_domain.specs.Kept.{KeptMaker, KeptNode, Tells}
 use Rattle.flow_domain.specs.Cut.{cut_body}
 use Rattle.flow_domain.specs.Presence.{IsNeeded}
+use Rattle.flow_domain.specs.Rows.{AnyRound, CallRows, RowOf}
+use Rattle.flow_domain.specs.Touch.{IsExact}
 
 -- where the body of a function of this type stands
 abbrev pub context_of : Module → FuncType → Body → Context
@@ -48,21 +49,20 @@ sites_at cs t b i = body_sites cs (length t.results) (watched_once b i)
 abbrev pub ends_at : Callees → FuncType → Body → ℕ → List EndAt
 ends_at cs t b i = body_ends cs (length t.results) (watched_once b i)
 
--- the locations that a live position reads or checks, where calls check these
-pub record UsesAt (cs : Callees) (C : OfCalls) (S : Sites) (p : ℕ) (x : Loc) : Type 0 where
-  pub site : Site
-  pub is : IsSite S p site
-  pub uses : HeadReads cs site.head x ⊎ HeadChecks cs C site.head x
-
--- Calls read, check and write nothing. No function that is sliced so far has a call.
+-- calls read, check and write nothing
 abbrev pub no_calls : OfCalls
 no_calls g x = ⊥
 
--- the kept set of position i of a body of this type
-abbrev pub KeptAt : Callees → FuncType → Body → ℕ → Node → Type 0
-KeptAt cs t b i n =
-    let S = sites_at cs t b i in
-    Kept cs (WritesAt cs no_calls S) (UsesAt cs no_calls S) S (ends_at cs t b i) n
+-- the rows of the functions of a module
+abbrev pub rows_in : Module → Cover → CallRows
+rows_in m W = RowOf m (AnyRound (bounds m W))
+
+-- the kept set of position i of a body of this type, and the nodes whose value is needed
+abbrev pub KeptIn : Module → Cover → FuncType → Body → ℕ → Node → Type 0
+KeptIn m W kind body i n = KeptNode (bounds m W) (rows_in m W) (sites_at (callees m) kind body i) (ends_at (callees m) kind body i) n
+
+abbrev pub MadeIn : Module → Cover → FuncType → Body → ℕ → Node → Type 0
+MadeIn m W kind body i n = KeptMaker (bounds m W) (rows_in m W) (sites_at (callees m) kind body i) (ends_at (callees m) kind body i) n
 
 -- the cut of a body, given the kept nodes, the present places and the types of the places
 abbrev pub cut_of : Callees → (K P : Node → Bool) → (Node → ValType) → FuncType → Body → ℕ → Marked
@@ -96,8 +96,13 @@ pub record IsSliced (m : Module) (f i : ℕ) (name : Name) (new : Module) (at : 
   pub has_body : HasBody m f body
   pub site : Site
   pub live : IsSite (sites_at (callees m) kind body i) i site
+  -- what the functions of m write and touch
+  pub cover : Cover
+  pub cover_is : IsExact m cover
   pub kept : Node → Bool
-  pub exact : Tells kept (KeptAt (callees m) kind body i)
+  pub exact : Tells kept (KeptIn m cover kind body i)
+  pub makers : Node → Bool
+  pub made : Tells makers (MadeIn m cover kind body i)
   -- the places that are needed, and no others
   pub present : Node → Bool
   pub needed : Tells present (IsNeeded (callees m) (sites_at (callees m) kind body i) (ends_at (callees m) kind body i) kept)

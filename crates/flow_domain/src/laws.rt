@@ -2,7 +2,7 @@
 
 ghost use Rattle.flow_domain.specs.Law.{KeptIsClosed, KeptIsLeast, SlicedKeptIsClosed, SlicedKeptIsLeast};
 
-/// The kept set lies in every set that the rules do not leave, whatever the positions write and use.
+/// The kept set lies in every set that the rules do not leave, whatever the rows of the functions called are.
 pub fn law_kept_is_least()
     ensures tables { KeptIsLeast }
     ensures sliced { SlicedKeptIsLeast }

@@ -15,6 +15,7 @@ use Rattle.wasm_types.specs.Shadow.{looping, around, later, arms, InShadow, if_j
 use Rattle.wasm_types.specs.Reaching.{Writes, writes_it}
 use Rattle.flow_domain.specs.Bounds.{written_by, writes_at, Bounds}
 use Rattle.wasm_types.specs.Actions.{Callees, callees, leaves, takes}
+use Rattle.wasm_types.specs.declared.instr.Instr.{Instr}
 use Rattle.wasm_types.specs.declared.place.Loc.{Loc}
 use Rattle.wasm_types.specs.declared.place.Node.TheVariants as node
 use Rattle.wasm_types.specs.Marked.{Block, Br, BrIf, BrTable, Do, End, If, Loop, Marked, Return, Unreachable, size}
@@ -224,19 +225,20 @@ fine_end S [] e f a = absurd a
 fine_end S (x ∷ es) e f (inl q) = subst (FineEnd S) q (record { names = f.0; owner = f.1 })
 fine_end S (x ∷ es) e f (inr a) = fine_end S es e f.2 a
 
-do_head : (B : Bounds) (h : Head) (x : Loc) → writes_at B h x ≡ true → IsDo h
-do_head B (DoHead op) x w = tt
-do_head B (BlockHead t) x w = absurd (true≢false (sym w))
-do_head B (LoopHead t) x w = absurd (true≢false (sym w))
-do_head B (IfHead t) x w = absurd (true≢false (sym w))
-do_head B (BrHead l) x w = absurd (true≢false (sym w))
-do_head B (BrIfHead l) x w = absurd (true≢false (sym w))
-do_head B (BrTableHead labels other) x w = absurd (true≢false (sym w))
-do_head B (ReturnHead l) x w = absurd (true≢false (sym w))
-do_head B UnreachableHead x w = tt
+-- only an instruction writes
+pub wrote : (B : Bounds) (h : Head) (x : Loc) → writes_at B h x ≡ true → (op : Instr) × (h ≡ DoHead op)
+wrote B (DoHead op) x w = (op, refl)
+wrote B (BlockHead t) x w = absurd (true≢false (sym w))
+wrote B (LoopHead t) x w = absurd (true≢false (sym w))
+wrote B (IfHead t) x w = absurd (true≢false (sym w))
+wrote B (BrHead l) x w = absurd (true≢false (sym w))
+wrote B (BrIfHead l) x w = absurd (true≢false (sym w))
+wrote B (BrTableHead labels other) x w = absurd (true≢false (sym w))
+wrote B (ReturnHead l) x w = absurd (true≢false (sym w))
+wrote B UnreachableHead x w = absurd (true≢false (sym w))
 
 written_made : (B : Bounds) (S : Sites) (x : Loc) (n : Node) → Writes (written_by B S) x n → MadeOk S n
-written_made B S x n (writes_it w) = (w.0, w.1, do_head B w.0.head x w.2)
+written_made B S x n (writes_it w) = (w.0, w.1, subst IsDo (sym (wrote B w.0.head x w.2).1) tt)
 
 pub carry_made : (S : Sites) (h : Head) (names : List Node) → AllMade S names → AllMade S (carry_names h names)
 carry_made S (DoHead op) names a = a

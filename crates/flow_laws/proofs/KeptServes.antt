@@ -9,23 +9,32 @@ use Rattle.wasm_types.specs.declared.module.Module.{Module}
 use Rattle.wasm_types.specs.declared.instr.Instr.{Instr}
 use Rattle.wasm_types.specs.declared.place.Loc.{Loc}
 use Rattle.wasm_types.specs.declared.place.Node.{Node}
-use Rattle.wasm_types.specs.Actions.{callees}
+use Rattle.wasm_types.specs.Actions.{Callees, callees}
 use Rattle.wasm_types.specs.Nodes.{At}
 use Rattle.wasm_types.specs.Reaching.{writes_it, Enters, stands, steps}
 use Rattle.wasm_types.specs.Sites.{Head, DoHead, BlockHead, LoopHead, IfHead, BrHead, BrIfHead, BrTableHead, ReturnHead, UnreachableHead, Site, Sites, IsSite, EndAt, operand_count, from_at, to_next}
 use Rattle.flow_domain.specs.Bounds.{Bounds, bounds, writes, writes_at, written_by}
-use Rattle.flow_domain.specs.Kept.{Tells}
-use Rattle.flow_domain.specs.Keeping.{called_at, KeptItem, KeptNode, KeptMaker, criterion, criterion_operand, completes, whole, operand, using, argument, place, writer, deciding, carrying, ending, holding_at, holding_join, own_join}
+use Rattle.flow_domain.specs.Kept.{Tells, called_at, KeptItem, KeptNode, KeptMaker, criterion, criterion_operand, completes, whole, operand, using, argument, place, writer, deciding, carrying, ending, holding_at, holding_join, own_join}
 use Rattle.flow_domain.specs.Rows.{Ret, Final, Done, CallRows, Makes, Place}
-use Rattle.flow_domain.specs.Sliced.{func_count}
-use Rattle.flow_domain.specs.SlicedFor.{rows_in, IsSlicedFor}
+use Rattle.flow_domain.specs.Sliced.{func_count, rows_in, IsSliced}
 use Rattle.flow_laws.specs.Cutting.{IsTest, NeedK, used, used_done, used_result, used_final, later, IsKept}
-use Rattle.flow_laws.specs.Kept.{KeptServes, SliceForReturns}
+use Rattle.flow_laws.specs.Kept.{KeptServes, SlicedReturns}
 use Rattle.flow_laws.specs.Slices.{IsSliceOf}
-use Rattle.flow_laws.proofs.CallFree.{wrote, test_takes}
+use Rattle.flow_laws.proofs.Fine.{wrote}
 use Rattle.flow_laws.proofs.Module.{path_of}
 use Rattle.flow_laws.proofs.ReachLaw.{exact_serves}
 use Rattle.flow_laws.proofs.SliceReturns.{slice_returns}
+
+test_takes : (cs : Callees) (h : Head) → IsTest h → operand_count cs h ≡ 1
+test_takes cs (DoHead op) t = absurd t
+test_takes cs (BlockHead kind) t = absurd t
+test_takes cs (LoopHead kind) t = absurd t
+test_takes cs (IfHead kind) t = refl
+test_takes cs (BrHead l) t = absurd t
+test_takes cs (BrIfHead l) t = refl
+test_takes cs (BrTableHead labels other) t = refl
+test_takes cs (ReturnHead l) t = absurd t
+test_takes cs UnreachableHead t = absurd t
 
 test_calls : (B : Bounds) (h : Head) → IsTest h → called_at B h ≡ None
 test_calls B (DoHead op) t = absurd t
@@ -50,7 +59,7 @@ module _ (B : Bounds) (R : CallRows) (S : Sites) (ends : List EndAt) (K M : Node
   writes_needed : (p : ℕ) (x : Loc) (s : Site) → IsSite S p s → writes_at B s.head x ≡ true → Need s.next x → KeptItem B R S ends (Makes (At p) (Final x))
   writes_needed p x s is w nd =
       let o = wrote B s.head x w in
-      writer nd.at nd.kept (writes_it (s, is, w)) (path_of B S x (At p) s.next nd.at (from_at s is (to_next o.op o.is)) nd.enters)
+      writer nd.at nd.kept (writes_it (s, is, w)) (path_of B S x (At p) s.next nd.at (from_at s is (to_next o.0 o.1)) nd.enters)
 
   op_writes : (s : Site) (op : Instr) (x : Loc) → s.head ≡ DoHead op → writes B op x ≡ true → writes_at B s.head x ≡ true
   op_writes s op x hd w = ap (λ h. writes_at B h x) hd ∙ w
@@ -101,7 +110,7 @@ module _ (B : Bounds) (R : CallRows) (S : Sites) (ends : List EndAt) (K M : Node
 pub kept_serves : KeptServes
 kept_serves m W S ends K M k_is m_is = kept_serves_by (bounds m W) (rows_in m W) S ends K M k_is m_is
 
-slice_for : (m : Module) (f i : ℕ) (name : Name) (new : Module) (at : ℕ) (sl : IsSlicedFor m f i name new at) → IsSliceOf m sl.cover f i new at
+slice_for : (m : Module) (f i : ℕ) (name : Name) (new : Module) (at : ℕ) (sl : IsSliced m f i name new at) → IsSliceOf m sl.cover f i new at
 slice_for m f i name new at sl = record {
   type = sl.type;
   own = sl.own;
@@ -125,6 +134,6 @@ slice_for m f i name new at sl = record {
   at_is = sl.at_is;
 }
 
-pub slice_for_returns : SliceForReturns
-slice_for_returns m valid heights f i name new at sl =
+pub sliced_returns : SlicedReturns
+sliced_returns m valid heights f i name new at sl =
     slice_returns m sl.cover valid (exact_serves m sl.cover valid heights sl.cover_is.writes) f i new at (slice_for m f i name new at sl)

@@ -33,6 +33,5 @@ pub mod Once
 pub mod CutCalls
 pub mod SliceReturns
 pub mod Heights
-pub mod CallFree
 pub mod Following
 pub mod KeptServes

@@ -11,10 +11,8 @@ use Rattle.wasm_meaning.specs.State.{State}
 use Rattle.wasm_meaning.specs.Fits.{Fits}
 use Rattle.wasm_meaning.specs.Invoke.{Returns}
 use Rattle.flow_domain.specs.Bounds.{Cover, bounds}
-use Rattle.flow_domain.specs.Kept.{Tells}
-use Rattle.flow_domain.specs.Keeping.{KeptNode, KeptMaker}
-use Rattle.flow_domain.specs.Sliced.{func_count}
-use Rattle.flow_domain.specs.SlicedFor.{rows_in, IsSlicedFor}
+use Rattle.flow_domain.specs.Kept.{Tells, KeptNode, KeptMaker}
+use Rattle.flow_domain.specs.Sliced.{func_count, rows_in, IsSliced}
 use Rattle.flow_laws.specs.Calls.{HasHeights}
 use Rattle.flow_laws.specs.Cutting.{IsKept}
 use Rattle.flow_laws.specs.Slices.{ReturnsToo}
@@ -26,9 +24,9 @@ KeptServes =
     → Tells M (KeptMaker (bounds m W) (rows_in m W) S ends) → IsKept (bounds m W) (rows_in m W) S ends K M
 
 -- So whenever a function of a valid module returns, its sliced module's function returns from the same start, after no more turns and with the same events.
-abbrev pub SliceForReturns : Type 0
-SliceForReturns =
-    (m : Module) → IsValid m → HasHeights m → (f i : ℕ) (name : Name) (new : Module) (at : ℕ) → IsSlicedFor m f i name new at
+abbrev pub SlicedReturns : Type 0
+SlicedReturns =
+    (m : Module) → IsValid m → HasHeights m → (f i : ℕ) (name : Name) (new : Module) (at : ℕ) → IsSliced m f i name new at
     → (args : List Value) (s : State) → Fits m s
     → (n : ℕ) (results : List Value) (final : State) (events : List Event) → Returns m f i args s n results final events
     → ReturnsToo new (func_count m) at args s n final events

@@ -3,5 +3,4 @@ pub mod Soundness
 pub mod Cutting
 pub mod Exact
 pub mod Slices
-pub mod CallFree
 pub mod Kept

@@ -1,9 +1,8 @@
 //! Two runs of code: what rows leave out has no influence, and a cut follows its body.
 #![tactic(auto)]
 
-ghost use Rattle.flow_laws.specs.CallFree.{ClosedServes, SlicedReturns};
 ghost use Rattle.flow_laws.specs.Exact.{ExactServes};
-ghost use Rattle.flow_laws.specs.Kept.{KeptServes, SliceForReturns};
+ghost use Rattle.flow_laws.specs.Kept.{KeptServes, SlicedReturns};
 ghost use Rattle.flow_laws.specs.Slices.{SliceReturns};
 ghost use Rattle.flow_laws.specs.Soundness.{DoneSound, RowsSound};
 
@@ -27,22 +26,12 @@ pub fn law_exact_serves()
     ensures { ExactServes }
 {}
 
-/// In a body that calls nothing, a set that is closed by the rules of the kept set keeps the rules of slices.
-pub fn law_closed_serves()
-    ensures { ClosedServes }
-{}
-
-/// So whenever a function that calls nothing returns, its sliced module's function returns from the same start, with equal events and no more turns.
-pub fn law_sliced_returns()
-    ensures { SlicedReturns }
-{}
-
 /// The kept set of any position of a module, with the nodes whose value is needed, keeps the rules of slices.
 pub fn law_kept_serves()
     ensures { KeptServes }
 {}
 
 /// So whenever a function returns, its sliced module's function returns from the same start, with equal events and no more turns.
-pub fn law_slice_for_returns()
-    ensures { SliceForReturns }
+pub fn law_sliced_returns()
+    ensures { SlicedReturns }
 {}

@@ -17,7 +17,7 @@ use Rattle.stack_names.specs.Ends.{HasValues}
 use Rattle.stack_names.specs.Named.{Named, is_listed, is_live_in, listed, listed_all, sites_in}
 use Rattle.flow_domain.specs.declared.summary_table.SummaryTable.{SummaryTable}
 use Rattle.flow_domain.specs.Bounds.{Cover, Bounds, bounds}
-use Rattle.flow_domain.specs.Keeping.{KeptItem, criterion, criterion_operand, completes, whole, operand, using, argument, place, writer, deciding, carrying, ending, holding_at, holding_join, own_join}
+use Rattle.flow_domain.specs.Kept.{KeptItem, criterion, criterion_operand, completes, whole, operand, using, argument, place, writer, deciding, carrying, ending, holding_at, holding_join, own_join}
 use Rattle.flow_domain.specs.KeptSets.{KeptSet, holds}
 use Rattle.flow_domain.specs.Rows.{Ret, Done, CallRows, RowOf, Item, Makes}
 use Rattle.flow_domain.specs.Sliced.{watched_code, sites_at, ends_at}

@@ -26,7 +26,7 @@ use Rattle.control_deps.specs.Nearest.{Finds, nearest_in}
 use Rattle.worklist.specs.Reached.{Reached, root, step}
 use Rattle.flow_domain.specs.declared.loc_table.LocUse.{LocUse}
 use Rattle.flow_domain.specs.Bounds.{Bounds, reads, checks, called, writes_at, written_by}
-use Rattle.flow_domain.specs.Keeping.{called_at, KeptItem, criterion, criterion_operand, completes, whole, operand, using, argument, place, writer, deciding, carrying, ending, holding_at, holding_join, own_join}
+use Rattle.flow_domain.specs.Kept.{called_at, KeptItem, criterion, criterion_operand, completes, whole, operand, using, argument, place, writer, deciding, carrying, ending, holding_at, holding_join, own_join}
 use Rattle.flow_domain.specs.LocTables.{Rows, HasRow, HasUse, IsPlainTable}
 use Rattle.flow_domain.specs.Rows.{Output, Ret, Final, Done, CallRows, Item, Makes, Place as Locates, Decider}
 use Rattle.flow_domain.specs.Sliced.{no_calls}

@@ -7,7 +7,7 @@ use Rattle.wasm_types.specs.Locations.{TaskReads, TaskChecks, TaskWrites}
 use Rattle.wasm_types.specs.Reaching.{HeadReads, HeadChecks, HeadWrites}
 use Rattle.wasm_types.specs.Sites.{Head, DoHead, BlockHead, LoopHead, IfHead, BrHead, BrIfHead, BrTableHead, ReturnHead, UnreachableHead}
 use Rattle.flow_domain.specs.Bounds.{Cover, Bounds, reads, checks, called, reads_of, checks_of, writes_of, writes_at}
-use Rattle.flow_domain.specs.Keeping.{called_at}
+use Rattle.flow_domain.specs.Kept.{called_at}
 use Rattle.flow_domain.specs.Sliced.{no_calls}
 
 -- ---- tasks

@@ -41,8 +41,7 @@ use Rattle.flow_domain.specs.Heights.{Shaped}
 use Rattle.flow_domain.specs.LocRows.{rows_of}
 use Rattle.flow_domain.proofs.LocLemmas.{plain_table}
 use Rattle.flow_domain.specs.Bounds.{Cover, Bounds, bounds, called}
-use Rattle.flow_domain.specs.Kept.{Tells}
-use Rattle.flow_domain.specs.Keeping.{called_at}
+use Rattle.flow_domain.specs.Kept.{Tells, called_at}
 use Rattle.flow_domain.specs.KeptSets.{KeptSet, holds}
 use Rattle.flow_domain.specs.Rows.{CallRows, RowOf}
 use Rattle.flow_domain.specs.Sliced.{context_of, watched_code}

@@ -8,8 +8,7 @@ use Rattle.wasm_types.specs.Actions.{callees}
 use Rattle.wasm_types.specs.Spaces.{HasBody, type_of_func}
 use Rattle.flow_domain.specs.declared.summary_table.SummaryTable.{SummaryTable}
 use Rattle.flow_domain.specs.Bounds.{Cover, bounds}
-use Rattle.flow_domain.specs.Kept.{Tells}
-use Rattle.flow_domain.specs.Keeping.{KeptNode, KeptMaker}
+use Rattle.flow_domain.specs.Kept.{Tells, KeptNode, KeptMaker}
 use Rattle.flow_domain.specs.KeptSets.{KeptSet, holds}
 use Rattle.flow_domain.specs.Rows.{RowOf}
 use Rattle.flow_domain.specs.Sliced.{sites_at, ends_at}

@@ -7,7 +7,7 @@ use Rattle.wasm_types.specs.Actions.{callees}
 use Rattle.wasm_types.specs.Funcs.{unwatched}
 use Rattle.flow_domain.specs.Sliced.{context_of}
 use Rattle.flow_laws.specs.Calls.{HasHeights, AnyInstr}
-use Rattle.flow_laws.proofs.KeptServes.{slice_for_returns}
+use Rattle.flow_laws.proofs.KeptServes.{sliced_returns}
 use Rattle.stack_repair.specs.Law.{HasTypes}
 use Rattle.stack_repair.proofs.Bodies.{valid_has_heights}
 use Rattle.stack_repair.proofs.Heights.{shaped_weaker}
@@ -19,4 +19,4 @@ heights m valid integer f t b is has =
     (valid_has_heights m t b (record { valid = valid; no_float = integer; func = f; kind_is = is; has_body = has }) unwatched)
 
 pub slice_follows : SliceFollows
-slice_follows m valid integer f i name new at sl = slice_for_returns m valid (heights m valid integer) f i name new at sl
+slice_follows m valid integer f i name new at sl = sliced_returns m valid (heights m valid integer) f i name new at sl

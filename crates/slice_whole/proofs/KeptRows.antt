@@ -18,13 +18,11 @@ use Rattle.wasm_types.specs.Spaces.{body_of, func_import, func_types, globals_of
 use Rattle.wasm_types.specs.Subset.{IsSealed}
 use Rattle.flow_domain.specs.declared.summary_table.SummaryTable.{SummaryTable}
 use Rattle.flow_domain.specs.Bounds.{Bounds, Cover, bounds, called}
-use Rattle.flow_domain.specs.Kept.{Tells}
-use Rattle.flow_domain.specs.Keeping.{KeptItem}
+use Rattle.flow_domain.specs.Kept.{Tells, KeptItem}
 use Rattle.flow_domain.specs.KeptSets.{KeptSet, holds}
 use Rattle.flow_domain.specs.Reach.{LiveIn, itself}
 use Rattle.flow_domain.specs.Rows.{AnyRound, CallRows, Dep, Done, Final, ImportRows, Item, LedTo, Makes, Output, Ret, RowOf, Rows, by_code, by_host}
-use Rattle.flow_domain.specs.Sliced.{ends_at, sites_at, watched_once}
-use Rattle.flow_domain.specs.SlicedFor.{KeptIn, MadeIn}
+use Rattle.flow_domain.specs.Sliced.{ends_at, sites_at, watched_once, KeptIn, MadeIn}
 use Rattle.flow_domain.specs.Summaries.{IsKnown, IsTableOf, TableRows}
 use Rattle.flow_domain.specs.Touch.{IsExact}
 use Rattle.flow_domain.proofs.KeptBetween as between

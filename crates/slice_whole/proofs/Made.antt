@@ -13,8 +13,7 @@ use Rattle.wasm_types.specs.Spaces.{import_count, imported, func_import, HasBody
 use Rattle.wasm_types.specs.Subset.{InSubset, IsSealed, WithinLimits, most_read, HasNoFloat}
 use Rattle.wasm_types.specs.Validity.{IsValid}
 use Rattle.wasm_types.specs.WellFormed.{IsU8, ProperName}
-use Rattle.flow_domain.specs.Sliced.{func_count, appended, HasExport}
-use Rattle.flow_domain.specs.SlicedFor.{IsSlicedFor}
+use Rattle.flow_domain.specs.Sliced.{func_count, appended, HasExport, IsSliced}
 use Rattle.stack_repair.proofs.Appended.{own_body, type_at, body_is_short, slice_is_short, slice_is_sealed}
 use Rattle.stack_repair.proofs.ExactCut.{needed_told}
 use Rattle.stack_repair.proofs.Bodies.{types_of_body}
@@ -48,7 +47,7 @@ new_body m type b c name valid has =
 
 -- the sliced module, by what was found for it
 pub sliced_is : (m : Module) (f i : ℕ) (name : Name) (new : Module) (found : NewFunc) → IsValid m → HasNoFloat m → IsNew m f i found
-    → new ≡ appended m found.kind found.body name → IsSlicedFor m f i name new found.at.0
+    → new ≡ appended m found.kind found.body name → IsSliced m f i name new found.at.0
 sliced_is m f i name new found valid integer n is =
     let o = n.own in
     let h = own_body m valid integer f o.type o.kind o.body o.own o.kind_is o.has_body in
@@ -81,13 +80,13 @@ sliced_is m f i name new found valid integer n is =
 -- what holds of it
 pub record Made (m : Module) (f i : ℕ) (name : List ℕ) (new : Module) (at : ℕ) : Type 0 where
   pub none : why_not m f i name ≡ None
-  pub sliced : IsSlicedFor m f i (name_of name) new at
+  pub sliced : IsSliced m f i (name_of name) new at
   pub sealed : IsSealed new
   pub body : IsShortFor m f new
   pub length : length (canon new) ≤ 5 * length (canon m) + length name + 64
 
 short_for : (m : Module) (f i : ℕ) (name : Name) (new : Module) (at : ℕ) → IsValid m → InSubset m → ProperName name → (HasExport m.exports name.bytes → ⊥)
-    → IsSlicedFor m f i name new at → IsShortFor m f new
+    → IsSliced m f i name new at → IsShortFor m f new
 unfolding sliced_has_cut
 short_for m f i name new at valid sub proper free s old cut has has' =
     let h = sliced_has_cut m f i name new at proper free s in

@@ -15,8 +15,7 @@ use Rattle.wasm_types.specs.Places.{TypesPlaces}
 use Rattle.flow_domain.specs.Bounds.{Cover}
 use Rattle.flow_domain.specs.Kept.{Tells}
 use Rattle.flow_domain.specs.Presence.{IsNeeded}
-use Rattle.flow_domain.specs.Sliced.{context_of, sites_at, ends_at, cut_of, with_code, appended}
-use Rattle.flow_domain.specs.SlicedFor.{KeptIn, IsSlicedFor}
+use Rattle.flow_domain.specs.Sliced.{context_of, sites_at, ends_at, cut_of, with_code, appended, KeptIn, IsSliced}
 use Rattle.stack_repair.proofs.Appended.{own_body}
 use Rattle.stack_repair.proofs.Bodies.{one_cut_code}
 use Rattle.stack_repair.proofs.ExactCut.{one_test}
@@ -32,8 +31,8 @@ record Parts (C : Callees) (m : Module) (W : Cover) (t : FuncType) (b : Body) (i
   typed : TypesPlaces (context_of m t b) (sites_at C t b i) T
 
 -- of a valid module without floats, whichever types the places are given
-pub one_sliced : (m : Module) (f i : ℕ) (name : Name) (new other : Module) (at to : ℕ) → IsValid m → HasNoFloat m → IsSlicedFor m f i name new at
-    → IsSlicedFor m f i name other to
+pub one_sliced : (m : Module) (f i : ℕ) (name : Name) (new other : Module) (at to : ℕ) → IsValid m → HasNoFloat m → IsSliced m f i name new at
+    → IsSliced m f i name other to
     → (new ≡ other) × (at ≡ to)
 one_sliced m f i name new other at to valid integer p q =
     let C = callees m in

@@ -13,8 +13,7 @@ use Rattle.wasm_types.specs.Nodes.{At, Join}
 use Rattle.wasm_types.specs.Reaching.{writes_it}
 use Rattle.wasm_types.specs.Sites.{Head, BlockHead, LoopHead, IfHead, Site, Sites, IsSite, EndAt, HasJoin, body_sites, body_ends, carry_names}
 use Rattle.flow_domain.specs.Bounds.{Bounds}
-use Rattle.flow_domain.specs.Kept.{Tells}
-use Rattle.flow_domain.specs.Keeping.{KeptItem, KeptMaker, KeptNode, argument, carrying, completes, criterion, criterion_operand, deciding, ending, holding_at, holding_join, operand, own_join, place, using, whole, writer}
+use Rattle.flow_domain.specs.Kept.{Tells, KeptItem, KeptMaker, KeptNode, argument, carrying, completes, criterion, criterion_operand, deciding, ending, holding_at, holding_join, operand, own_join, place, using, whole, writer}
 use Rattle.flow_domain.specs.Presence.{IsNeeded, IsNeeded as needed}
 use Rattle.flow_domain.specs.Rows.{CallRows, Done, Item, Makes, Ret}
 use Rattle.flow_laws.proofs.Fine.{MadeOk, AllMade, made_get, none_node, some_node, site_fine, end_fine, carry_made, shadow_stands}

@@ -13,8 +13,7 @@ use Rattle.wasm_types.specs.Validity.{IsValid}
 use Rattle.wasm_types.specs.Actions.{callees}
 use Rattle.wasm_types.specs.Sites.{Site, IsSite}
 use Rattle.flow_domain.specs.Bounds.{Cover, bounds}
-use Rattle.flow_domain.specs.Sliced.{func_count, cut_of, with_code, appended, watched_once}
-use Rattle.flow_domain.specs.SlicedFor.{rows_in, IsSlicedFor}
+use Rattle.flow_domain.specs.Sliced.{func_count, cut_of, with_code, appended, watched_once, rows_in, IsSliced}
 use Rattle.stack_repair.proofs.Appended.{own_body, type_at}
 use Rattle.stack_repair.proofs.Bodies.{types_of_body}
 use Rattle.stack_repair.proofs.ExactCut.{needed_told}
@@ -73,7 +72,7 @@ own_seen m valid integer f i name e =
     (o, s.0, sym (ap₂ {A = Option FuncType} {B = Option Body} (λ x y. slice_get (sites_in m i x y) i) is b) ∙ s.1)
 
 pub some_sliced : (m : Module) (f i : ℕ) (name : Name) → IsSealed m → why_not m f i name.bytes ≡ None
-    → NotRefuted ((new : Module) × (at : ℕ) × IsSlicedFor m f i name new at)
+    → NotRefuted ((new : Module) × (at : ℕ) × IsSliced m f i name new at)
 some_sliced m f i name sealed e never =
     let seen = own_seen m sealed.valid sealed.no_float f i name.bytes e in
     let o = seen.0 in

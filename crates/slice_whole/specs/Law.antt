@@ -9,8 +9,7 @@ use Rattle.wasm_types.specs.Subset.{HasNoFloat}
 use Rattle.wasm_meaning.specs.State.{State}
 use Rattle.wasm_meaning.specs.Fits.{Fits}
 use Rattle.wasm_meaning.specs.Invoke.{Returns}
-use Rattle.flow_domain.specs.Sliced.{func_count}
-use Rattle.flow_domain.specs.SlicedFor.{IsSlicedFor}
+use Rattle.flow_domain.specs.Sliced.{func_count, IsSliced}
 use Rattle.flow_laws.specs.Slices.{ReturnsToo}
 
 -- whenever function f of m returns, function g of `new` returns from the same start, after no more turns and with the same events
@@ -24,4 +23,4 @@ Follows m f i new g at =
 abbrev pub SliceFollows : Type 0
 SliceFollows =
     (m : Module) → IsValid m → HasNoFloat m → (f i : ℕ) (name : Name) (new : Module) (at : ℕ)
-    → IsSlicedFor m f i name new at → Follows m f i new (func_count m) at
+    → IsSliced m f i name new at → Follows m f i new (func_count m) at

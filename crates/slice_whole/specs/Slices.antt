@@ -14,8 +14,7 @@ use Rattle.wasm_types.specs.Actions.{callees}
 use Rattle.wasm_types.specs.Sites.{Site, Sites, IsSite}
 use Rattle.flow_domain.specs.Bounds.{Cover}
 use Rattle.flow_domain.specs.Kept.{Tells}
-use Rattle.flow_domain.specs.Sliced.{func_count, sites_at, HasExport}
-use Rattle.flow_domain.specs.SlicedFor.{KeptIn, MadeIn, IsSlicedFor}
+use Rattle.flow_domain.specs.Sliced.{func_count, sites_at, HasExport, KeptIn, MadeIn, IsSliced}
 use Rattle.flow_domain.specs.Touch.{IsExact}
 use Rattle.stack_repair.specs.Cuts.{IsCut}
 use Rattle.slice_whole.specs.declared.slicing.Sliced.{Sliced}
@@ -102,7 +101,7 @@ why_not m f i name =
 -- What slicing answers: the sliced module and the number of its new function, or the first cause against it. An allocation may be refused at any time.
 abbrev pub Slices : Module → ℕ → ℕ → Name → Result Sliced SliceRefusal → Type 0
 Slices m f i name (Ok s) =
-    (why_not m f i name.bytes ≡ None) × IsSlicedFor m f i name s.module s.at.0 × (s.func ≡ func_count m) × (HasExport m.exports name.bytes → ⊥)
+    (why_not m f i name.bytes ≡ None) × IsSliced m f i name s.module s.at.0 × (s.func ≡ func_count m) × (HasExport m.exports name.bytes → ⊥)
 Slices m f i name (Err Memory) = Unit {0}
 Slices m f i name (Err why) = why_not m f i name.bytes ≡ Some why
 

@@ -3,12 +3,11 @@ use Rattle.std.proofs.Common.{ℕ, nat_eq}
 use Rattle.wasm_types.specs.declared.module.Name.{Name}
 use Rattle.wasm_types.specs.declared.module.Module.{Module}
 use Rattle.wasm_types.specs.WellFormed.{ProperName}
-use Rattle.flow_domain.specs.Sliced.{HasExport}
-use Rattle.flow_domain.specs.SlicedFor.{IsSlicedFor}
+use Rattle.flow_domain.specs.Sliced.{HasExport, IsSliced}
 use Rattle.stack_repair.specs.Law.{HasCut}
 
 unfoldable pub sliced_has_cut : (m : Module) (f i : ℕ) (name : Name) (new : Module) (at : ℕ) → ProperName name → (HasExport m.exports name.bytes → ⊥)
-    → IsSlicedFor m f i name new at → HasCut m name new
+    → IsSliced m f i name new at → HasCut m name new
 sliced_has_cut m f i name new at proper free s = record {
   func = f;
   type = s.type;

@@ -10,8 +10,7 @@ use Rattle.wasm_types.specs.Code.{code_of, count}
 use Rattle.wasm_validate.specs.Admission.{IsAdmitted}
 use Rattle.flow_domain.specs.Bounds.{Cover}
 use Rattle.flow_domain.specs.Kept.{Tells}
-use Rattle.flow_domain.specs.Sliced.{func_count}
-use Rattle.flow_domain.specs.SlicedFor.{KeptIn}
+use Rattle.flow_domain.specs.Sliced.{func_count, KeptIn}
 use Rattle.stack_repair.proofs.ExactCut.{one_test}
 use Rattle.slice_whole.proofs.OneCover.{one_cover}
 use Rattle.slice_whole.proofs.OneSliced.{one_sliced}

@@ -24,8 +24,7 @@ use Rattle.wasm_validate.specs.Admission as admission
 use Rattle.wasm_validate.specs.Admission.{IsAdmitted}
 use Rattle.flow_domain.specs.Bounds.{Cover}
 use Rattle.flow_domain.specs.Kept.{Tells}
-use Rattle.flow_domain.specs.Sliced.{func_count}
-use Rattle.flow_domain.specs.SlicedFor.{IsSlicedFor, KeptIn}
+use Rattle.flow_domain.specs.Sliced.{func_count, IsSliced, KeptIn}
 use Rattle.flow_domain.specs.Touch.{IsExact}
 use Rattle.wassail_top.specs.Orders.{Order, most_name_bytes}
 use Rattle.wassail_top.specs.Orders.Order.{check, rewrite, list, summary, kept, slice, run, trace}
@@ -55,7 +54,7 @@ name_of bytes = record { bytes = bytes }
 pub record IsSlicedAs (m : Module) (f i : ℕ) (name : List ℕ) (answer : Answer) : Type 0 where
   pub new : Module
   pub at : ℕ
-  pub sliced : IsSlicedFor m f i (name_of name) new at
+  pub sliced : IsSliced m f i (name_of name) new at
   pub proper : ProperName (name_of name)
   pub short : length name ≤ most_name_bytes
   pub is : answer ≡ slice_answer new (func_count m) at

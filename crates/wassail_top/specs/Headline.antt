@@ -17,8 +17,7 @@ use Rattle.wassail_top.specs.Answers.{name_of}
 use Rattle.wassail_top.specs.Summaries.{AreRows, LeavesOut, RowTest}
 use Rattle.flow_domain.specs.declared.summary.Output.{Output as Asked}
 use Rattle.flow_domain.specs.declared.summary.Output.TheVariants.{Done}
-use Rattle.flow_domain.specs.Sliced.{func_count}
-use Rattle.flow_domain.specs.SlicedFor.{IsSlicedFor}
+use Rattle.flow_domain.specs.Sliced.{func_count, IsSliced}
 use Rattle.flow_domain.specs.Summaries.{IsKnown, asked}
 use Rattle.summary_fix.specs.TwoRuns.{BothReturn, TwoAgree}
 use Rattle.slice_whole.specs.Law.{Follows}
@@ -38,7 +37,7 @@ pub record SliceHolds (f i : ℕ) (name : List ℕ) (left_old left_new out_old o
   pub spelled : Spells bytes m
   pub new : Module
   pub at : ℕ
-  pub sliced : IsSlicedFor m f i (name_of name) new at
+  pub sliced : IsSliced m f i (name_of name) new at
   pub out : Appends out_old out_new (canon new)
   pub err : Appends err_old err_new (slice_line (func_count m) at)
   pub valid : IsValid new

@@ -1,4 +1,4 @@
-use Rattle.flow_laws.proofs.CallFree.{sliced_returns}
+use Rattle.flow_laws.proofs.KeptServes.{sliced_returns}
 use Rattle.flow_laws.proofs.law_sliced_returns.Goals as goal
 
 pub returns : goal.returns

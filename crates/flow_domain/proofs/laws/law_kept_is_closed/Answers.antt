@@ -1,9 +1,11 @@
-use Rattle.flow_domain.specs.Law.{table}
+use Rattle.flow_domain.specs.Bounds.{bounds}
+use Rattle.flow_domain.specs.Law.{rows_by}
+use Rattle.flow_domain.specs.Sliced.{rows_in}
 use Rattle.flow_domain.proofs.KeptLaws.{closed}
 use Rattle.flow_domain.proofs.laws.law_kept_is_closed.Goals as goal
 
 pub returns : goal.returns
 returns c = record {
-  tables = λ cs w u S ends. closed cs (table w) (table u) S ends;
-  sliced = λ cs t b i. closed cs _ _ _ _;
+  tables = λ B row. closed B (rows_by row);
+  sliced = λ m W. closed (bounds m W) (rows_in m W);
 }
