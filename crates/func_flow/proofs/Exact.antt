@@ -1,7 +1,7 @@
 -- What a search of a body meets is what its outputs lead to.
 use Rattle.std.proofs.Common.{◌≡◌, ◌↔◌, ℕ, suc, ◌+◌, ◌<◌, ◌≤◌, List, Bool, true, false, Option, Some, None, reverse, take, length}
 use Rattle.std.proofs.Common.{refl, sym, ap, ◌∙◌, subst, inl, inr, ◌⊎◌, ⊎_elim, arith}
-use Rattle.std.specs.Prelude.{slice_get, ◌^◌}
+use Rattle.std.specs.Prelude.{slice_get}
 use Rattle.std.specs.List.{Contains}
 use Rattle.std.proofs.lemmas.List.{length-reverse}
 use Rattle.std.proofs.lemmas.Option.{slice_get_within, same_Some}
@@ -38,7 +38,7 @@ use Rattle.flow_domain.specs.declared.loc_table.LocUse.{LocUse}
 use Rattle.flow_domain.specs.LocTables.{HasRow, row_in, WritesIn, IsPlainTable}
 use Rattle.flow_domain.specs.Bounds.{Bounds, bounds, Cover, reads, called, may_trap, may_trap_of, reads_of, checks_of, writes_of}
 use Rattle.flow_domain.specs.Bounds.{traps_of as traps_by_task, writes_at, written_by}
-use Rattle.flow_domain.specs.Rows.{Output, Ret, Final, Done, Item, Makes, Place as Locates, Decider, CallRows, IsIndex, needs_operand}
+use Rattle.flow_domain.specs.Rows.{Output, Ret, Final, Done, Item, Makes, Place as Locates, Decider, CallRows, needs_operand}
 use Rattle.flow_domain.specs.Rows.{needs_place, Led, result, final, done_branch, done_trap, done_unreachable, writer, operand, reading, argument, place}
 use Rattle.flow_domain.specs.Rows.{carrying, ending, deciding, deciding_again, condition, Needed}
 use Rattle.flow_domain.specs.Sliced.{no_calls}
@@ -47,40 +47,24 @@ use Rattle.func_flow.specs.declared.items.Item.TheVariants as item
 use Rattle.func_flow.specs.declared.steps.Picks.{Picks}
 use Rattle.func_flow.specs.declared.steps.Picks.TheVariants.{Nothing, Top}
 use Rattle.func_flow.specs.declared.steps.Step.{Step}
-use Rattle.func_flow.specs.declared.steps.Whom.{Whom}
-use Rattle.func_flow.specs.declared.steps.Whom.TheVariants as whom
+use Rattle.called_rows.specs.declared.instrs.Whom.{Whom}
+use Rattle.called_rows.specs.declared.instrs.Whom.TheVariants as whom
 use Rattle.func_flow.specs.declared.tables.Tables.{Tables}
 use Rattle.func_flow.specs.Items.{loc_number, IsLoc}
 use Rattle.func_flow.specs.Steps.{IsPicked, form_step, head_step, deciding as deciding_step, whom_of, decides_of, arms_of, stops_of}
-use Rattle.func_flow.specs.Next.{FromBelow, RowIn, ChecksBy, IsLast, WritesBy, WritesAs, WrittenAt, holder_item, operands_at, PickedAt, picks_for, uses_for}
+use Rattle.called_rows.specs.Called.{ChecksBy, RowIn, TakesIn, globals_in}
+use Rattle.called_rows.specs.Right.{CallRight}
+use Rattle.called_rows.specs.Whom.{IsIndexOf, IsLast, IsWhom}
+use Rattle.called_rows.proofs.FormKinds.{Kind, plain, own, through, kind_of, plain_task, own_asks, table_asks}
+use Rattle.func_flow.specs.Next.{FromBelow, WritesAs, WrittenAt, holder_item, operands_at, PickedAt, picks_for, uses_for}
 use Rattle.func_flow.specs.Next.{ArgumentAt, PlaceAt, ByStep, Condition, Outward, Passes, Next, Makes as MakesNext, First, Stop}
 use Rattle.flow_domain.specs.Summaries.{row_number}
 use Rattle.flow_domain.proofs.Summing.{among_is, among_some, row_once}
 use Rattle.func_flow.proofs.Placed.{front_get, get_front, placed_long, top_maker, maker_top, deep_maker, maker_deep, front_long, unreversed}
 use Rattle.func_flow.proofs.Placed.{operands_are}
-use Rattle.func_flow.proofs.FormKinds.{Kind, plain, own, through, kind_of, plain_task, own_asks, table_asks, picked_traps, traps_picked}
+use Rattle.func_flow.proofs.FormKinds.{picked_traps, traps_picked}
 use Rattle.slice_closure.proofs.Joined.{Comes}
 use Rattle.slice_closure.proofs.Makers.{site_among, among_site}
-
--- a call of the callee by this step
-abbrev pub IsWhom : Callee → Whom → Type 0
-IsWhom (Own f) (whom.Own g) = f ≡ g
-IsWhom (Through t n) (whom.Through u) = t ≡ u
-IsWhom _ _ = ⊥
-
--- the index of a call through the table, on its n arguments
-abbrev pub IsIndexOf : Callee → Loc → Type 0
-IsIndexOf (Own f) x = ⊥
-IsIndexOf (Through t n) x = IsIndex n x
-
--- what the tables say of a callee is what the rows and the cover say
-pub record CallRight (B : Bounds) (R : CallRows) (t : Tables) (g : Callee) (w : Whom) : Type 0 where
-  pub rows : (o : Output) (x : Loc) → R g o x ↔ (RowIn t w o x ⊎ IsIndexOf g x)
-  pub writes : (x : Loc) → WritesBy t w x ↔ (B.cover.writes g x ≡ true)
-  pub checks : (o : Output) (x : Loc) → ChecksBy t w o x ↔ ((o ≡ Done) × (B.cover.touch g x ≡ true))
-  pub known : (o : Output) (x : Loc) → RowIn t w o x → is_outer x ≡ true → IsLoc t.numbering.globals t.numbering.locals x
-  pub touched : (x : Loc) → B.cover.touch g x ≡ true → (is_outer x ≡ true) × IsLoc t.numbering.globals t.numbering.locals x
-  pub few : (o : Output) (k : ℕ) → RowIn t w o (Local k) → k < 2 ^ 32
 
 -- the tables are those of the body with these sites and live ends
 pub record AreRight (B : Bounds) (R : CallRows) (S : Sites) (ends : List EndAt) (T : Node → ValType) (t : Tables) : Type 0 where
@@ -92,6 +76,7 @@ pub record AreRight (B : Bounds) (R : CallRows) (S : Sites) (ends : List EndAt) 
   pub stands : (p : ℕ) (s : Site) → IsSite S p s → slice_get t.steps.now p ≡ Some (head_step s.head)
   pub tasks : (p : ℕ) (s : Site) (op : Instr) → IsSite S p s → s.head ≡ DoHead op → task_of (callees B.m) op ≡ NoTask → ⊥
   pub tall : (p : ℕ) (s : Site) (op : Instr) → IsSite S p s → s.head ≡ DoHead op → takes (callees B.m) op ≤ length s.names
+  pub globals : t.numbering.globals ≡ globals_in t.called
   pub positions : t.names.now.positions ≡ listed_all (callees B.m) T S
   pub joined : (j x : Node) → Contains (of_node t.names.now.joined j) x ↔ Comes S ends j x
   pub name_points : (p : ℕ) (s : Site) → IsSite S p s → (k : ℕ) (x : Node) → slice_get s.names k ≡ Some x → IsPoint S x
@@ -110,9 +95,16 @@ pub record AreRight (B : Bounds) (R : CallRows) (S : Sites) (ends : List EndAt) 
   -- whatever has a node in its shadow is found by steps, the last of them to a nearest decider, or from what an if holds
   pub found : (p : ℕ) (n : Node) → InShadow S p n → FoundFrom S (code_of t.body.now.code) (nearest_in t.deciders.now) n p
   pub calls : (p : ℕ) (s : Site) (op : Instr) (g : Callee) (w : Whom) → IsSite S p s → s.head ≡ DoHead op → called B op ≡ Some g → IsWhom g w
-      → CallRight B R t g w
+      → CallRight B R t.called g w
 
 -- ---- of one instruction
+
+more_locals : (globals n : ℕ) (x : Loc) → IsLoc globals 0 x → IsLoc globals n x
+more_locals globals n (Local k) ok = absurd (omega arith)
+more_locals globals n (Loc.Global k) ok = ok
+more_locals globals n Loc.Mem ok = omega arith
+more_locals globals n Loc.Size ok = omega arith
+more_locals globals n Loc.Host ok = omega arith
 
 pub reads_head : (cs : Callees) (h : Head) (x : Loc) → HeadReads cs h x → (op : Instr) × ((h ≡ DoHead op) × TaskReads (task_of cs op) x)
 reads_head cs (DoHead op) x r = (op, (refl, r))
@@ -363,7 +355,7 @@ module _ (B : Bounds) (R : CallRows) (S : Sites) (ends : List EndAt) (T : Node �
       deep_point name = let i = unreversed (take (takes cs op) s.names) k pl.maker name in front_point p s is (takes cs op) i.0 pl.maker i.1
 
   call_means : (out : Output) (p : ℕ) (s : Site) (op : Instr) (g : Callee) (w : Whom) → IsLed (Makes (At p) out) → IsSite S p s → s.head ≡ DoHead op
-      → called B op ≡ Some g → CallRight B R t g w → ((k : ℕ) → IsLast w (length (operands_at t p)) k → IsIndexOf g (Local k)) → (j : Met)
+      → called B op ≡ Some g → CallRight B R t.called g w → ((k : ℕ) → IsLast w (length (operands_at t p)) k → IsIndexOf g (Local k)) → (j : Met)
       → FromBelow (length (operands_at t p)) (ArgumentAt t (operands_at t p) out w) j ⊎ FromBelow (t.numbering.globals + 3) (PlaceAt t p out w) j → Means j
   call_means out p s op g w led is e c cr last j (inl (k, (lt, (on, (pl, (got, same)))))) =
       let row : R g out (Local k) = (cr.rows out (Local k)).1 (⊎_elim (λ h. inl h.1) (λ h. inr (last k h)) on) in
@@ -535,7 +527,7 @@ module _ (B : Bounds) (R : CallRows) (S : Sites) (ends : List EndAt) (T : Node �
       → whom_of (slice_get t.steps.now p) ≡ (form_step f).whom
   form_whom p s op f is e fe = ap whom_of (step_is p s op f is e fe)
 
-  call_writes : (p : ℕ) (s : Site) (op : Instr) (g : Callee) (w : Whom) → s.head ≡ DoHead op → called B op ≡ Some g → CallRight B R t g w
+  call_writes : (p : ℕ) (s : Site) (op : Instr) (g : Callee) (w : Whom) → s.head ≡ DoHead op → called B op ≡ Some g → CallRight B R t.called g w
       → whom_of (slice_get t.steps.now p) ≡ Some w → (x : Loc) → WrittenAt t p x ↔ (writes_at B s.head x ≡ true)
   call_writes p s op g w e c cr known x =
       let head : writes_at B s.head x ≡ B.cover.writes g x = ap (λ h. writes_at B h x) e ∙ writes_is B.cover (task_of cs op) g x c in (
@@ -813,9 +805,13 @@ module _ (B : Bounds) (R : CallRows) (S : Sites) (ends : List EndAt) (T : Node �
 
     -- a location that a call needs
     place_next : (p : ℕ) (w : Whom) (out : Output) (x : Loc) → IsLoc t.numbering.globals t.numbering.locals x → is_outer x ≡ true
-        → RowIn t w out x ⊎ ChecksBy t w out x → FromBelow (t.numbering.globals + 3) (PlaceAt t p out w) (item.Needed x (At p))
+        → RowIn t.called w out x ⊎ ChecksBy t.called w out x → FromBelow (t.numbering.globals + 3) (PlaceAt t p out w) (item.Needed x (At p))
     place_next p w out x ok on h =
         (loc_number t.numbering.globals x, (below_outer t.numbering.globals t.numbering.locals x ok on, (x, (ok, (refl, (h, refl))))))
+
+    -- a location of the module has a number
+    known_loc : (x : Loc) → IsLoc (globals_in t.called) 0 x → IsLoc t.numbering.globals t.numbering.locals x
+    known_loc x ok = more_locals t.numbering.globals t.numbering.locals x (subst (λ n. IsLoc n 0 x) (sym r.globals) ok)
 
     outer_index : (g : Callee) (x : Loc) → IsIndexOf g x → is_outer x ≡ true → ⊥
     outer_index (Own f) x h on = h
@@ -826,14 +822,14 @@ module _ (B : Bounds) (R : CallRows) (S : Sites) (ends : List EndAt) (T : Node �
     outer_index (Through k n) Loc.Host h on = h
 
     call_reading : (p : ℕ) (s : Site) (op : Instr) (f : Form) (g : Callee) (w : Whom) (out : Output) (x : Loc) → MakesMet (At p) out → IsSite S p s
-        → s.head ≡ DoHead op → form_of op ≡ f → (form_step f).whom ≡ Some w → called B op ≡ Some g → CallRight B R t g w → needs_place B op out x
+        → s.head ≡ DoHead op → form_of op ≡ f → (form_step f).whom ≡ Some w → called B op ≡ Some g → CallRight B R t.called g w → needs_place B op out x
         → IsMet (item.Needed x (At p))
     call_reading p s op f g w Ret x met is e fe whom_is c cr h = let off = reads_none (task_of cs op) g x c in absurd cc
     call_reading p s op f g w (Final y) x met is e fe whom_is c cr h = let off = reads_none (task_of cs op) g x c in absurd cc
     call_reading p s op f g w Done x met is e fe whom_is c cr h =
         let touched = sym (touch_is B.cover (task_of cs op) g x c) ∙ h in
         let known = cr.touched x touched in
-        call_on p s op f w Done met is e fe whom_is (item.Needed x (At p)) (inr (place_next p w Done x known.1 known.0 (inr ((cr.checks Done x).1 (refl, touched)))))
+        call_on p s op f w Done met is e fe whom_is (item.Needed x (At p)) (inr (place_next p w Done x (known_loc x known.1) known.0 (inr ((cr.checks Done x).1 (refl, touched)))))
 
     reading_met : (p : ℕ) (s : Site) (op : Instr) (out : Output) (x : Loc) → MakesMet (At p) out → IsSite S p s → s.head ≡ DoHead op → Kind B.m op
         → needs_place B op out x → IsMet (item.Needed x (At p))
@@ -847,9 +843,9 @@ module _ (B : Bounds) (R : CallRows) (S : Sites) (ends : List EndAt) (T : Node �
         (r.calls p s op (Through k (length F.params)) (whom.Through k) is e c refl) h
 
     call_place : (p : ℕ) (s : Site) (op : Instr) (f : Form) (g : Callee) (w : Whom) (out : Output) (x : Loc) → MakesMet (At p) out → IsSite S p s
-        → s.head ≡ DoHead op → form_of op ≡ f → (form_step f).whom ≡ Some w → CallRight B R t g w → R g out x → is_outer x ≡ true → IsMet (item.Needed x (At p))
+        → s.head ≡ DoHead op → form_of op ≡ f → (form_step f).whom ≡ Some w → CallRight B R t.called g w → R g out x → is_outer x ≡ true → IsMet (item.Needed x (At p))
     call_place p s op f g w out x met is e fe whom_is cr row on = ⊎_elim
-        (λ h. call_on p s op f w out met is e fe whom_is (item.Needed x (At p)) (inr (place_next p w out x (cr.known out x h on) on (inl h))))
+        (λ h. call_on p s op f w out met is e fe whom_is (item.Needed x (At p)) (inr (place_next p w out x (known_loc x (cr.known out x h on)) on (inl h))))
         (λ i. absurd (outer_index g x i on))
         ((cr.rows out x).0 row)
 
@@ -867,14 +863,14 @@ module _ (B : Bounds) (R : CallRows) (S : Sites) (ends : List EndAt) (T : Node �
         (subst (λ z. R z out x) (same_callee g g' (sym c ∙ c')) row) on
 
     call_argument : (p k : ℕ) (s : Site) (op : Instr) (f : Form) (g : Callee) (w : Whom) (out : Output) (n : Node) → MakesMet (At p) out → IsSite S p s
-        → s.head ≡ DoHead op → form_of op ≡ f → (form_step f).whom ≡ Some w → CallRight B R t g w
+        → s.head ≡ DoHead op → form_of op ≡ f → (form_step f).whom ≡ Some w → CallRight B R t.called g w
         → (IsIndexOf g (Local k) → k < length (operands_at t p) → IsLast w (length (operands_at t p)) k) → R g out (Local k)
         → slice_get (reverse (take (takes cs op) s.names)) k ≡ Some n → IsMet (item.Value n)
     call_argument p k s op f g w out n met is e fe whom_is cr last row name =
         let got : slice_get (operands_at t p) k ≡ Some (place_of T n) =
         ap (λ (ps : List Place). slice_get ps k) (do_operands p s op is e) ∙ maker_deep T (take (takes cs op) s.names) k n name in
         let lt = slice_get_within (operands_at t p) k (place_of T n) got in
-        let needed : ((k < 2 ^ 32) × RowIn t w out (Local k)) ⊎ IsLast w (length (operands_at t p)) k =
+        let needed : TakesIn t.called w out (length (operands_at t p)) k =
         ⊎_elim (λ h. inl (cr.few out k h, h)) (λ i. inr (last i lt)) ((cr.rows out (Local k)).0 row) in
         call_on p s op f w out met is e fe whom_is (item.Value n) (inl (k, (lt, (needed, (place_of T n, (got, refl))))))
 

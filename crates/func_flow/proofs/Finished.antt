@@ -18,7 +18,7 @@ use Rattle.wasm_types.specs.Labels.{first}
 use Rattle.wasm_types.specs.Sites.{body_sites, body_ends}
 use Rattle.flow_domain.specs.Bounds.{Bounds}
 use Rattle.flow_domain.specs.Rows.{Output, Rows, CallRows, RowOf, Needed, LedTo, by_code, by_host, ImportRows, IsInput}
-use Rattle.func_flow.proofs.Known.{IsFunc, func_is}
+use Rattle.called_rows.proofs.Known.{IsFunc, func_is}
 
 -- own functions are no imports
 pub no_import : (m : Module) (f : ℕ) (o : Output) (x : Loc) → import_count m ≤ f → ImportRows m f o x → ⊥

@@ -146,7 +146,7 @@ module _ (m : Module) (f : ℕ) (t : Tables) (made : AreMade m f t) (is : body_o
   ends = body_ends (callees m) results (marked unwatched 0 code)
 
   abbrev R : CallRows
-  R = RowOf m (TableRows t.rows.now)
+  R = RowOf m (TableRows t.called.rows.now)
 
   abbrev begin : Node
   begin = first 0 (marked unwatched 0 code) Exit
@@ -157,26 +157,26 @@ module _ (m : Module) (f : ℕ) (t : Tables) (made : AreMade m f t) (is : body_o
   met_at o row r x = needed_met (bounds m W) R S ends made.names.types t (right m f t made W exact) o row r begin x
 
   led_at : (o : Output) (x : Loc)
-      → LedTo (TableRows t.rows.now) (bounds m W) f o x ↔ (Needed (bounds m W) R S ends o begin x × IsInput (length made.names.kind.params) x)
-  led_at o x = led_is (TableRows t.rows.now) (bounds m W) f made.names.kind t.body.now o x made.names.has_body.0 made.names.kind_is is
+      → LedTo (TableRows t.called.rows.now) (bounds m W) f o x ↔ (Needed (bounds m W) R S ends o begin x × IsInput (length made.names.kind.params) x)
+  led_at o x = led_is (TableRows t.called.rows.now) (bounds m W) f made.names.kind t.body.now o x made.names.has_body.0 made.names.kind_is is
 
   -- what is found from the rows of known outputs is what they lead to
   pub found_led : (node : Node) → node ≡ first_of 0 (code_of t.body.now.code) Exit → (globals params : ℕ) → t.numbering.globals ≡ globals
       → params ≡ length made.names.kind.params → (o : Output) → IsKnown globals o → (x : Loc)
-      → IsFound t node globals params o x ↔ LedTo (TableRows t.rows.now) (bounds m W) f o x
+      → IsFound t node globals params o x ↔ LedTo (TableRows t.called.rows.now) (bounds m W) f o x
   found_led node node_is globals params same wide o known x = (to, from)
     where
       there : node ≡ begin
       there = node_is ∙ sym (first_marked unwatched code 0 Exit)
 
-      to : IsFound t node globals params o x → LedTo (TableRows t.rows.now) (bounds m W) f o x
+      to : IsFound t node globals params o x → LedTo (TableRows t.called.rows.now) (bounds m W) f o x
       to (row, (column, (r, (c, reached)))) =
           let r' : row_number t.numbering.globals o ≡ Some row = subst (λ g. row_number g o ≡ Some row) (sym same) r in
           let here : Reached (First t row) (Next t) (item.Needed x begin) =
           subst (λ (n : Node). Reached (First t row) (Next t) (item.Needed x n)) there reached in
           (led_at o x).1 ((met_at o row r' x).1 here, subst (λ p. IsInput p x) wide (column_input globals params x column c))
 
-      from : LedTo (TableRows t.rows.now) (bounds m W) f o x → IsFound t node globals params o x
+      from : LedTo (TableRows t.called.rows.now) (bounds m W) f o x → IsFound t node globals params o x
       from h =
           let n = (led_at o x).0 h in
           let row = value_of (row_number globals o) known in

@@ -1,51 +1,11 @@
--- What a live instruction is that goes on to the next one.
-use Rattle.std.proofs.Common.{◌≡◌, ℕ, zero, suc, Bool, true, false, Option, Some, None, slice_get, refl, ap, ◌∙◌}
+-- Which operands decide whether an action traps.
+use Rattle.std.proofs.Common.{◌≡◌, ℕ, zero, suc, Bool, true, false, refl}
 use Rattle.std.specs.Prelude.{if◌then◌else◌}
-use Rattle.wasm_types.specs.declared.module.FuncType.{FuncType}
-use Rattle.wasm_types.specs.declared.module.Module.{Module}
-use Rattle.wasm_types.specs.declared.instr.Instr.{Instr}
-use Rattle.wasm_types.specs.Spaces.{type_of_func}
 use Rattle.wasm_types.specs.Actions.{Action, Nothing as Nought, Const, Number, Discard, Choose, Get, Set, Tee, GetGlobal, SetGlobal, Read, Write, Pages, Grow}
-use Rattle.wasm_types.specs.Actions.{Copy, Fill, callees, Form, NoForm, Plain, CallOf, CallBy, form_of, NoTask, Acts, own_task}
-use Rattle.wasm_types.specs.Actions.{table_task, task_by, task_of}
+use Rattle.wasm_types.specs.Actions.{Copy, Fill}
 use Rattle.wasm_types.specs.Locations.{number_traps, traps_in as traps_of_action}
 use Rattle.func_flow.specs.declared.steps.Picks.TheVariants.{Nothing, All}
 use Rattle.func_flow.specs.Steps.{IsPicked, traps_in}
-
--- it calls nothing, or it calls a function, or what the table holds
-pub data Kind (m : Module) (op : Instr) : Type 0 where
-  plain : (a : Action) → form_of op ≡ Plain a → Kind m op
-  own : (f : ℕ) (F : FuncType) → form_of op ≡ CallOf f → type_of_func m f ≡ Some F → Kind m op
-  through : (k : ℕ) (F : FuncType) → form_of op ≡ CallBy k → slice_get m.types k ≡ Some F → Kind m op
-
-module _ (m : Module) (op : Instr) where
-  pub plain_task : (a : Action) → form_of op ≡ Plain a → task_of (callees m) op ≡ Acts a
-  plain_task a e = ap (task_by (callees m)) e
-
-  pub own_asks : (f : ℕ) (o : Option FuncType) → form_of op ≡ CallOf f → type_of_func m f ≡ o → task_of (callees m) op ≡ own_task f o
-  own_asks f o e is = ap (task_by (callees m)) e ∙ ap (own_task f) is
-
-  pub table_asks : (k : ℕ) (o : Option FuncType) → form_of op ≡ CallBy k → slice_get m.types k ≡ o → task_of (callees m) op ≡ table_task k o
-  table_asks k o e is = ap (task_by (callees m)) e ∙ ap (table_task k) is
-
-  own_kind : (f : ℕ) → form_of op ≡ CallOf f → (task_of (callees m) op ≡ NoTask → ⊥) → (o : Option FuncType) → type_of_func m f ≡ o → Kind m op
-  own_kind f e some None is = absurd (some (own_asks f None e is))
-  own_kind f e some (Some F) is = own f F e is
-
-  table_kind : (k : ℕ) → form_of op ≡ CallBy k → (task_of (callees m) op ≡ NoTask → ⊥) → (o : Option FuncType) → slice_get m.types k ≡ o → Kind m op
-  table_kind k e some None is = absurd (some (table_asks k None e is))
-  table_kind k e some (Some F) is = through k F e is
-
-  kind_by : (task_of (callees m) op ≡ NoTask → ⊥) → (f : Form) → form_of op ≡ f → Kind m op
-  kind_by some NoForm e = absurd (some (ap (task_by (callees m)) e))
-  kind_by some (Plain a) e = plain a e
-  kind_by some (CallOf f) e = own_kind f e some (type_of_func m f) refl
-  kind_by some (CallBy k) e = table_kind k e some (slice_get m.types k) refl
-
-  pub kind_of : (task_of (callees m) op ≡ NoTask → ⊥) → Kind m op
-  kind_of some = kind_by some (form_of op) refl
-
--- ---- which operands decide whether an action traps
 
 picked_if : (b : Bool) (k : ℕ) → IsPicked (if b then All else Nothing) k → b ≡ true
 picked_if true k h = refl

@@ -5,7 +5,6 @@ pub mod StepLemmas
 pub mod Placed
 pub mod FormKinds
 pub mod Exact
-pub mod Known
 pub mod Forward
 pub mod RootLemmas
 pub mod Passing
@@ -14,5 +13,4 @@ pub mod Searching
 pub mod Right
 pub mod Finished
 pub mod MetLemmas
-pub mod TargetLemmas
 pub mod FlowLemmas

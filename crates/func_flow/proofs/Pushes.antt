@@ -1,7 +1,7 @@
 -- What a list gains, by items.
 use Rattle.std.proofs.Common.{◌≡◌, ℕ, ◌+◌, ◌<◌, ◌≤◌, List, [], ◌∷◌, ◌++◌, length, get_or, take, Bool, true, false, ◌↔◌, Some, None, refl, sym, ap, ◌∙◌, subst}
 use Rattle.std.proofs.Common.{inl, inr, ◌⊎◌, ⊎_elim, arith}
-use Rattle.std.specs.Prelude.{slice_get, reverse, ◌-◌, ◌^◌}
+use Rattle.std.specs.Prelude.{slice_get, reverse, ◌-◌}
 use Rattle.std.specs.List.{Contains}
 use Rattle.std.proofs.lemmas.List.{take_all, take_more}
 use Rattle.std.proofs.lemmas.List.Elements.{Contains-push, Contains-push_cases, Contains-append_left}
@@ -27,14 +27,14 @@ use Rattle.func_flow.specs.declared.numbering.Numbering.{Numbering}
 use Rattle.func_flow.specs.declared.tables.Tables.{Tables}
 use Rattle.func_flow.specs.Items.{item_number, Numbered}
 use Rattle.std.proofs.lemmas.Option.{same_Some, slice_get-get_or}
-use Rattle.wasm_types.specs.declared.place.Loc.TheVariants.{Local}
 use Rattle.stack_names.specs.declared.place.Place.{Place}
 use Rattle.flow_domain.specs.Rows.{Output}
 use Rattle.func_flow.specs.declared.items.Item.TheVariants.{Value}
 use Rattle.func_flow.specs.declared.steps.Picks.{Picks}
-use Rattle.func_flow.specs.declared.steps.Whom.{Whom}
+use Rattle.called_rows.specs.declared.instrs.Whom.{Whom}
 use Rattle.func_flow.specs.Steps.{IsPicked}
-use Rattle.func_flow.specs.Next.{FromEach, FromBelow, IsHolder, AreMarked, PickedAt, ArgumentAt, RowIn, IsLast}
+use Rattle.called_rows.specs.Called.{TakesIn}
+use Rattle.func_flow.specs.Next.{FromEach, FromBelow, IsHolder, AreMarked, PickedAt, ArgumentAt}
 use Rattle.func_flow.proofs.Placed.{top_read}
 
 none_there : {A : Type 0} (x : A) → Contains [] x → ⊥
@@ -158,11 +158,6 @@ on_point points N marks marked n k e lt on =
     let here : get_or marks k false ≡ is_among n points = ap (λ i. get_or marks i false) e ∙ marked.marked n lt in
     contains_of points n (among_is n points (sym here ∙ on))
 
--- what follows from each of some facts of which one is there, as a test tells
-pub told_true : {A P : Type 0} (b : Bool) → ∥ A ∥₁ → ((a : A) → (b ≡ true) ↔ P) → (A → P) → b ≡ true
-told_true true told tells w = refl
-told_true false told tells w = absurd (not_there told (λ a. let on = (tells a).1 (w a) in cc))
-
 -- ---- operands
 
 pub picked_gains : (K : Numbering) (places : List Place) (picks : Picks) (k : ℕ) (d : Place) (xs ys : List ℕ) → k < length places → IsPicked picks k
@@ -176,7 +171,7 @@ picked_gains K places picks k d xs ys lt on g =
     g
 
 pub argument_gains : (t : Tables) (places : List Place) (o : Output) (w : Whom) (k : ℕ) (d : Place) (xs ys : List ℕ) → k < length places
-    → ((k < 2 ^ 32) × RowIn t w o (Local k)) ⊎ IsLast w (length places) k
+    → TakesIn t.called w o (length places) k
     → Gains (Numbered t.numbering (λ j. j ≡ Value (get_or places k d).maker)) xs ys → Gains (Numbered t.numbering (ArgumentAt t places o w k)) xs ys
 argument_gains t places o w k d xs ys lt on g =
     let here = get_or places k d in

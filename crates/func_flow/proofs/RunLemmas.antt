@@ -24,13 +24,13 @@ use Rattle.def_use.proofs.Backwards.{decide}
 use Rattle.func_flow.specs.declared.items.Item.{Item}
 use Rattle.func_flow.specs.declared.items.Item.TheVariants.{Value, Completion, Decider, Decided, Written, Needed}
 use Rattle.func_flow.specs.declared.runs.Runs.{Runs}
-use Rattle.func_flow.specs.declared.steps.Whom.{Whom}
+use Rattle.called_rows.specs.declared.instrs.Whom.{Whom}
 use Rattle.func_flow.specs.declared.tables.Tables.{Tables}
 use Rattle.func_flow.specs.Items.{node_of}
-use Rattle.func_flow.specs.Next.{FromEach, AreMarked, whom_at, WritesAs, WrittenAt, Passes, Next}
+use Rattle.func_flow.specs.Next.{AreMarked, whom_at, WritesAs, WrittenAt, Passes, Next}
 use Rattle.func_flow.specs.Runs.{IsLone, GoesOn, IsRun, start_of, AreStarts, is_inner, starts_for, writers_in, IsInOrder, AreRuns, AreQuiet, join_only, entry_at, SettledFrom}
 use Rattle.func_flow.specs.Runs.{Settled, Lands, Short}
-use Rattle.func_flow.proofs.Passing.{Follows, here, onward, Passes as MayPass, short_reached}
+use Rattle.func_flow.proofs.Passing.{Follows, here, onward, short_reached}
 use Rattle.func_flow.proofs.Pushes.{writes_is, written_there, join_apart, on_point}
 
 -- ---- runs in order

@@ -5,6 +5,5 @@ pub mod Runs
 pub mod NextLaws
 pub mod RunLaws
 pub mod Roots
-pub mod Targets
 pub mod Made
 pub mod Met

@@ -16,17 +16,14 @@ use Rattle.control_deps.specs.Nearest.{AreNearest}
 use Rattle.flow_domain.specs.declared.loc_table.LocUse.{LocUse}
 use Rattle.flow_domain.specs.LocTables.{IsPlainTable, row_in}
 use Rattle.flow_domain.specs.Sliced.{watched_code}
-use Rattle.call_graph.specs.Graph.{IsCallGraph}
-use Rattle.flow_domain.specs.Summaries.{IsTableOf}
+use Rattle.called_rows.specs.Right.{IsCalled}
 use Rattle.func_flow.specs.declared.tables.Tables.{Tables}
 use Rattle.func_flow.specs.Items.{index_of}
 use Rattle.func_flow.specs.Steps.{steps}
-use Rattle.func_flow.specs.Targets.{AreAllTargets}
 
 pub record AreMade (m : Module) (f : ℕ) (t : Tables) : Type 0 where
   pub sealed : IsSealed m
   pub heights : ValidHasHeights
-  pub inside : t.inside.now ≡ m
   pub names : HasValues m f unwatched t.names.now
   pub same : names.body ≡ t.body.now
   pub cfg : IsCfgOf t.body.now t.cfg.now
@@ -34,10 +31,8 @@ pub record AreMade (m : Module) (f : ℕ) (t : Tables) : Type 0 where
   pub nest : IsNestOf t.body.now t.nest.now
   pub near : AreNearest t.nest.now t.deciders.now
   pub steps : t.steps.now ≡ steps (code_of t.body.now.code)
-  pub graph : IsCallGraph m t.graph.now
-  pub table : IsTableOf m t.rows.now
+  pub called : IsCalled m t.called
   pub globals : t.numbering.globals ≡ length (globals_of m)
   pub nodes : t.numbering.nodes ≡ 2 * count (code_of t.body.now.code) + 1
   pub locals : (p : ℕ) → All (λ (u : LocUse). index_of u.loc < t.numbering.locals) (row_in (slice_get t.locs.now p))
   pub params : length names.kind.params ≤ t.numbering.locals
-  pub targets : AreAllTargets m t.rows.now t.numbering.globals t.steps.now t.targets.now

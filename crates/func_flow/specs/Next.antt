@@ -1,11 +1,10 @@
 -- Where a search of a body goes on (docs/ANALYSES.md, "Rows"): each rule of what an output leads to leads from what is met to what it depends on, and a
 -- location that is needed at a point is needed at the points before, back to what writes it.
-use Rattle.std.specs.Prelude.{◌≡◌, ◌≤◌, ℕ, ◌+◌, ◌^◌, ◌⊎◌, ◌||◌, ◌<◌, List, reverse, Bool, true, false, Option, Some, None, length, slice_get}
+use Rattle.std.specs.Prelude.{◌≡◌, ◌≤◌, ℕ, ◌+◌, ◌⊎◌, ◌||◌, ◌<◌, List, reverse, Bool, true, false, Option, Some, None, length, slice_get}
 use Rattle.std.specs.Prelude.{slice_index_or}
 use Rattle.std.specs.List.{All, Contains}
 use Rattle.wasm_types.specs.declared.module.Pos.{Pos}
 use Rattle.wasm_types.specs.declared.place.Loc.{Loc}
-use Rattle.wasm_types.specs.declared.place.Loc.TheVariants.{Local}
 use Rattle.wasm_types.specs.declared.place.Node.{Node}
 use Rattle.wasm_types.specs.declared.place.Node.TheVariants as node
 use Rattle.wasm_types.specs.Code.{code_of}
@@ -19,19 +18,13 @@ use Rattle.control_deps.specs.Nest.{IsAround, IsNestOf}
 use Rattle.control_deps.specs.Nearest.{nearest_in}
 use Rattle.flow_domain.specs.declared.loc_table.LocUse.{LocUse}
 use Rattle.flow_domain.specs.LocTables.{row_in, WritesIn}
-use Rattle.flow_domain.specs.Reach.{MayWrite}
 use Rattle.flow_domain.specs.Rows.{Output, Ret, Final, Done}
-use Rattle.flow_domain.specs.Summaries.{HasInput, TableRows}
-use Rattle.call_graph.specs.Graph.{IsCallGraph}
+use Rattle.called_rows.specs.Called.{ChecksBy, RowIn, TakesIn, WritesBy}
 use Rattle.func_flow.specs.declared.items.Item.{Item}
 use Rattle.func_flow.specs.declared.items.Item.TheVariants.{Value, Completion, Decider, Decided, Written, Needed}
-use Rattle.func_flow.specs.declared.made.Made.{Made}
-use Rattle.func_flow.specs.declared.made.Made.TheVariants as made
 use Rattle.func_flow.specs.declared.steps.Picks.{Picks}
 use Rattle.func_flow.specs.declared.steps.Step.{Step}
-use Rattle.func_flow.specs.declared.steps.Whom.{Whom}
-use Rattle.func_flow.specs.declared.steps.Whom.TheVariants.{Own, Through}
-use Rattle.func_flow.specs.declared.targets.Targets.{Targets}
+use Rattle.called_rows.specs.declared.instrs.Whom.{Whom}
 use Rattle.func_flow.specs.declared.tables.Tables.{Tables}
 use Rattle.func_flow.specs.Items.{loc_number, IsLoc}
 use Rattle.func_flow.specs.Steps.{IsPicked, whom_of, makes_of, traps_of, decides_of, stops_of, arms_of}
@@ -44,62 +37,13 @@ FromEach {A} list Q j = (x : A) × (Contains list x × Q x j)
 abbrev pub FromBelow : ℕ → (ℕ → Item → Type 0) → Item → Type 0
 FromBelow n Q j = (k : ℕ) × ((k < n) × Q k j)
 
--- the output that is asked of a node
-abbrev pub output_of : Made → Output
-output_of made.Ret = Ret
-output_of made.Done = Done
-output_of (made.Final x) = Final x
-
--- ---- calls
-
--- a mark stands at the number of the location
-abbrev pub IsMarkedAt : ℕ → List Bool → Loc → Type 0
-IsMarkedAt globals marks x = slice_index_or marks (loc_number globals x) false ≡ true
-
--- what is known of the targets of a type number
-abbrev pub targets_in : Option (Option Targets) → Option Targets
-targets_in (Some (Some u)) = Some u
-targets_in _ = None
-
-abbrev pub RowOfTargets : Option Targets → Output → Loc → Type 0
-RowOfTargets (Some u) o x = HasInput u.rows o x
-RowOfTargets None o x = ⊥
-
-abbrev pub TargetsWrite : ℕ → Option Targets → Loc → Type 0
-TargetsWrite globals (Some u) x = IsMarkedAt globals u.writes.items x
-TargetsWrite globals None x = ⊥
-
-abbrev pub TargetsTouch : ℕ → Option Targets → Loc → Type 0
-TargetsTouch globals (Some u) x = IsMarkedAt globals u.touches.items x
-TargetsTouch globals None x = ⊥
-
--- the row of whom a call calls
-abbrev pub RowIn : Tables → Whom → Output → Loc → Type 0
-RowIn t (Own f) o x = TableRows t.rows.now f o x
-RowIn t (Through k) o x = RowOfTargets (targets_in (slice_get t.targets.now k)) o x
-
--- what a call writes, by the graph of calls
-abbrev pub WritesBy : Tables → Whom → Loc → Type 0
-WritesBy t (Own f) x = IsCallGraph t.inside.now t.graph.now → MayWrite t.inside.now f x
-WritesBy t (Through k) x = TargetsWrite t.numbering.globals (targets_in (slice_get t.targets.now k)) x
-
--- what decides whether a call itself stops
-abbrev pub ChecksBy : Tables → Whom → Output → Loc → Type 0
-ChecksBy t (Through k) Done x = TargetsTouch t.numbering.globals (targets_in (slice_get t.targets.now k)) x
-ChecksBy t _ o x = ⊥
-
--- the index of a call through the table is the last of so many operands
-abbrev pub IsLast : Whom → ℕ → ℕ → Type 0
-IsLast (Own f) n k = ⊥
-IsLast (Through t) n k = k + 1 ≡ n
-
 -- whom a position calls
 abbrev pub whom_at : Tables → ℕ → Option Whom
 whom_at t p = whom_of (slice_get t.steps.now p)
 
 abbrev pub WritesAs : Tables → ℕ → Option Whom → Loc → Type 0
 WritesAs t p None x = WritesIn t.locs.now p x
-WritesAs t p (Some w) x = WritesBy t w x
+WritesAs t p (Some w) x = WritesBy t.called w x
 
 -- what a position writes
 abbrev pub WrittenAt : Tables → ℕ → Loc → Type 0
@@ -133,13 +77,13 @@ Use p o u j = (uses_for o u ≡ true) × (j ≡ Needed u.loc (At p))
 -- operand k of a call, the deepest being 0
 abbrev pub ArgumentAt : Tables → List Place → Output → Whom → ℕ → Item → Type 0
 ArgumentAt t places o w k j =
-    (((k < 2 ^ 32) × RowIn t w o (Local k)) ⊎ IsLast w (length places) k) × ((place : Place) × ((slice_get places k ≡ Some place) × (j ≡ Value place.maker)))
+    TakesIn t.called w o (length places) k × ((place : Place) × ((slice_get places k ≡ Some place) × (j ≡ Value place.maker)))
 
 -- the location of number i, at a call
 abbrev pub PlaceAt : Tables → ℕ → Output → Whom → ℕ → Item → Type 0
 PlaceAt t p o w i j =
     (x : Loc) × (IsLoc t.numbering.globals t.numbering.locals x × ((loc_number t.numbering.globals x ≡ i)
-    × ((RowIn t w o x ⊎ ChecksBy t w o x) × (j ≡ Needed x (At p)))))
+    × ((RowIn t.called w o x ⊎ ChecksBy t.called w o x) × (j ≡ Needed x (At p)))))
 
 -- by what stands at a position, and whom that calls
 abbrev pub ByStep : Tables → ℕ → Output → Option Step → Option Whom → Item → Type 0
@@ -232,7 +176,6 @@ pub record Fits (t : Tables) : Type 0 where
   pub earlier : (n : Node) (p : Pos) → (nearest_in t.deciders.now n).earlier ≡ Some p → number (At p.0) < t.numbering.nodes
   pub latest : (n : Node) (p : Pos) → (nearest_in t.deciders.now n).latest ≡ Some p → number (At p.0) < t.numbering.nodes
   pub nested : ∥ IsNestOf t.body.now t.nest.now ∥₁
-  pub told : ∥ IsCallGraph t.inside.now t.graph.now ∥₁
 
 -- by the number of a node, below N, whether it is among the points
 pub record AreMarked (points : List Node) (N : ℕ) (marks : List Bool) : Type 0 where

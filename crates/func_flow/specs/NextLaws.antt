@@ -25,7 +25,7 @@ use Rattle.func_flow.specs.declared.items.Item.TheVariants.{Value, Completion, D
 use Rattle.func_flow.specs.declared.numbering.Numbering.{Numbering}
 use Rattle.func_flow.specs.declared.steps.Picks.{Picks}
 use Rattle.func_flow.specs.declared.steps.Step.{Step}
-use Rattle.func_flow.specs.declared.steps.Whom.{Whom}
+use Rattle.called_rows.specs.declared.instrs.Whom.{Whom}
 use Rattle.func_flow.specs.declared.tables.Tables.{Tables}
 use Rattle.func_flow.specs.Items.{loc_number, IsLoc, node_of, kind_number, item_number, IsItem}
 use Rattle.func_flow.specs.Steps.{arms_of}

@@ -8,8 +8,8 @@ use Rattle.wasm_types.specs.Code.{Code, done, one, block, repeat, branch}
 use Rattle.wasm_types.specs.Sites.{Head, DoHead, IfHead, BrIfHead, BrTableHead, UnreachableHead}
 use Rattle.func_flow.specs.declared.steps.Picks.{Picks}
 use Rattle.func_flow.specs.declared.steps.Picks.TheVariants.{Nothing, All, Top, Second, Outer}
-use Rattle.func_flow.specs.declared.steps.Whom.{Whom}
-use Rattle.func_flow.specs.declared.steps.Whom.TheVariants.{Own, Through}
+use Rattle.called_rows.specs.declared.instrs.Whom.{Whom}
+use Rattle.called_rows.specs.declared.instrs.Whom.TheVariants.{Own, Through}
 use Rattle.func_flow.specs.declared.steps.Step.{Step}
 
 -- the operand is among them, counted from the top

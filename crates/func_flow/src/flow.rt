@@ -16,6 +16,7 @@ ghost use Rattle.flow_domain.specs.Rows.{LedTo, Output as Asked};
 ghost use Rattle.flow_domain.specs.Summaries.{HasInput, IsKnown, IsShape, IsTableOf, TableRows};
 ghost use Rattle.flow_domain.specs.Touch.{IsExact};
 ghost use Rattle.call_graph.specs.Graph.{IsCallGraph};
+ghost use Rattle.called_rows.specs.Classes.{IsTargetTable};
 ghost use Rattle.func_flow.specs.Items.{index_of};
 ghost use Rattle.func_flow.specs.Made.{AreMade};
 ghost use Rattle.func_flow.specs.Met.{IsFound};
@@ -29,9 +30,9 @@ use crate::runs::Runs;
 use crate::search::Flow;
 use crate::steps::steps;
 use crate::tables::Tables;
-use crate::targets::all_targets;
 use block_cfg::{Cfg, edges, law_bodies_have_points, point_number};
 use call_graph::CallGraph;
+use called_rows::{Called, TargetTable};
 use control_deps::{Deciders, Nest};
 use flow_domain::{LocTable, Summary, SummaryTable, plain_locs};
 use sparse_reach::reach_sparse;
@@ -149,7 +150,7 @@ fn rows_by(
     requires params { (t : FuncType) → type_of_func m.now func ≡ Some t → params ≡ length t.params }
     ensures shape { IfOk result (λ s. IsShape globals params s) }
     ensures exact { IfOk result (λ s. (W : Cover) → IsExact m.now W → (o : Asked) → IsKnown globals o → (x : Loc) →
-        HasInput s o x ↔ LedTo (TableRows tables.entry.rows.now) (bounds m.now W) func o x) }
+        HasInput s o x ↔ LedTo (TableRows tables.entry.called.rows.now) (bounds m.now W) func o x) }
 {
     let first = first_point(tables.body.code.as_slice());
     let points = points_of(alloc, tables.cfg, tables.numbering.nodes)?;
@@ -164,18 +165,20 @@ fn rows_by(
 }
 
 /// The rows of an own function by one round (docs/ANALYSES.md, "Rows"): for each output the inputs that it leads to, by the rows that a table has for the
-/// functions called. It takes time and memory by the body, by the locations that are needed at the beginnings of its runs of points for each output, and by the
-/// targets of each type that it calls through the table. It fails only where memory is refused.
+/// functions called. It takes time and memory by the body and by the locations that are needed at the beginnings of its runs of points for each output. It
+/// fails only where memory is refused.
 pub fn flow_rows(
     alloc: Global,
     m: &ValidModule,
     func: u32,
     graph: &CallGraph,
     table: &SummaryTable,
+    targets: &TargetTable,
 ) -> Result<Summary, NoMemory>
     requires own { IsSome (body_of m.now func) }
     requires graph { IsCallGraph m.now graph.now }
     requires table { IsTableOf m.now table.now }
+    requires targets { IsTargetTable m.now graph.now table.now targets.now }
     ensures shape { IfOk result (λ s. (t : FuncType) → type_of_func m.now func ≡ Some t → IsShape (length (globals_of m.now)) (length t.params) s) }
     // The rows are the same for each exact cover.
     ensures exact { IfOk result (λ s. (W : Cover) → IsExact m.now W → (o : Asked) → IsKnown (length (globals_of m.now)) o → (x : Loc) →
@@ -191,8 +194,7 @@ pub fn flow_rows(
     let deciders = Deciders::of(alloc, &nest)?;
     let steps = steps(alloc, body)?;
     let numbering = numbering_of(body, &locs, own);
-    let targets = all_targets(alloc, m, graph, table, numbering, &steps)?;
-    let inside = m.module();
+    let called = Called::new(graph, table, targets);
     let tables = Tables {
         body,
         cfg: &cfg,
@@ -201,10 +203,7 @@ pub fn flow_rows(
         nest: &nest,
         deciders: &deciders,
         steps: &steps,
-        inside,
-        graph,
-        rows: table,
-        targets: &targets,
+        called,
         numbering,
     };
     let globals = own.globals();

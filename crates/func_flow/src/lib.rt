@@ -12,6 +12,5 @@ mod runs;
 mod search;
 mod steps;
 mod tables;
-mod targets;
 
 pub use flow::flow_rows;

@@ -1,90 +1,29 @@
-//! What may be asked of a node.
+//! What an output of a node depends on, where it calls nothing.
 
-ghost use Rattle.std.specs.Prelude.{◌≡◌, ◌↔◌, IfSome, IsTrue, None, Some};
-ghost use Rattle.wasm_types.specs.declared.place.Loc.{Loc};
-ghost use Rattle.flow_domain.specs.declared.summary.Summary.{Summary};
-ghost use Rattle.flow_domain.specs.Summaries.{HasInput, asked, place_of};
+ghost use Rattle.std.specs.Prelude.{◌≡◌, Some};
+ghost use Rattle.called_rows.specs.Whom.{output_of};
 ghost use Rattle.func_flow.specs.Next as spec;
 
 use crate::steps::{Picks, Step};
-use flow_domain::{Input, LocUse, Output, Summary};
-use wasm_types::Loc;
+use called_rows::Made;
+use flow_domain::LocUse;
 
-/// The value that a node makes, that its instruction completes, or what it writes to a location.
-#[derive(Clone, Copy, Drop)]
-pub(crate) enum Made {
-    Ret,
-    Done,
-    Final(Loc),
-}
-
-/// A location at the entry as an input.
-pub(crate) fn input_of(loc: Loc) -> Input
-    ensures { place_of result ≡ loc }
+/// Which operands an output depends on, where the position calls nothing.
+pub(crate) fn picks_for(made: Made, step: Step) -> Picks
+    ensures { result ≡ spec.picks_for (output_of made) (Some step) }
 {
-    match loc {
-        Loc::Local(local) => Input::Param(local),
-        Loc::Global(global) => Input::Global(global),
-        Loc::Mem => Input::Mem,
-        Loc::Size => Input::Size,
-        Loc::Host => Input::Host,
+    match made {
+        Made::Done => step.traps,
+        Made::Ret | Made::Final(_) => step.makes,
     }
 }
 
-/// A location at the end as an output: none of a local.
-fn final_of(loc: Loc) -> Option<Output>
-    ensures some { IfSome result (λ out. asked out ≡ spec.output_of (Made.Final loc)) }
-    ensures none { result ≡ None → (s : Summary) (x : Loc) → HasInput s (spec.output_of (Made.Final loc)) x → ⊥ }
+/// Whether an output depends on a location that a position uses so.
+pub(crate) fn uses_for(made: Made, one: LocUse) -> bool
+    ensures { result ≡ spec.uses_for (output_of made) one }
 {
-    match loc {
-        Loc::Local(_) => None,
-        Loc::Global(global) => Some(Output::Global(global)),
-        Loc::Mem => Some(Output::Mem),
-        Loc::Size => Some(Output::Size),
-        Loc::Host => Some(Output::Host),
-    }
-}
-
-impl Made {
-    /// The output of a call that is asked for: none of a local.
-    fn output(self) -> Option<Output>
-        ensures some { IfSome result (λ out. asked out ≡ spec.output_of self) }
-        ensures none { result ≡ None → (s : Summary) (x : Loc) → HasInput s (spec.output_of self) x → ⊥ }
-    {
-        match self {
-            Made::Ret => Some(Output::Ret),
-            Made::Done => Some(Output::Done),
-            Made::Final(loc) => final_of(loc),
-        }
-    }
-
-    /// Which operands it depends on, where the position calls nothing.
-    pub(crate) fn picks(self, step: Step) -> Picks
-        ensures { result ≡ spec.picks_for (spec.output_of self) (Some step) }
-    {
-        match self {
-            Made::Done => step.traps,
-            Made::Ret | Made::Final(_) => step.makes,
-        }
-    }
-
-    /// Whether it depends on a location that a position uses so.
-    pub(crate) fn uses(self, one: LocUse) -> bool
-        ensures { result ≡ spec.uses_for (spec.output_of self) one }
-    {
-        match self {
-            Made::Done => one.checks,
-            Made::Ret | Made::Final(_) => one.reads,
-        }
-    }
-
-    /// Whether the rows of a function called lead from what is asked to a location at its entry.
-    pub(crate) fn needs(self, rows: &Summary, loc: Loc) -> bool
-        ensures { IsTrue result ↔ HasInput rows.now (spec.output_of self) loc }
-    {
-        match self.output() {
-            Some(out) => rows.has(out, input_of(loc)),
-            None => false,
-        }
+    match made {
+        Made::Done => one.checks,
+        Made::Ret | Made::Final(_) => one.reads,
     }
 }

@@ -8,8 +8,8 @@ ghost use Rattle.flow_domain.specs.Summaries.{HasInput, IsShape, asked, column_n
 ghost use Rattle.func_flow.specs.Met as spec;
 
 use crate::items::Item;
-use crate::made::input_of;
 use crate::numbering::Numbering;
+use called_rows::input_of;
 use flow_domain::{Output, Summary};
 use sparse_reach::SparseRows;
 use std::alloc::Global;

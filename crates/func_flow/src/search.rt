@@ -13,19 +13,20 @@ ghost use Rattle.wasm_types.specs.Reaching.{Writes};
 ghost use Rattle.flow_domain.specs.LocTables.{row_in};
 ghost use Rattle.func_flow.specs.declared.items.Item.{Item};
 ghost use Rattle.func_flow.specs.Items.{IsItem, IsLoc, Numbered, item_number, loc_number};
+ghost use Rattle.called_rows.specs.Whom.{output_of};
 ghost use Rattle.func_flow.specs.Next as spec;
 ghost use Rattle.func_flow.specs.RunLaws.{short_stays};
 ghost use Rattle.func_flow.specs.Runs.{IsInOrder, Lands, Settled, SettledFrom, Short, entry_at, join_only};
 ghost use Rattle.func_flow.specs.Steps.{decides_of, whom_of};
 
 use crate::items::Item;
-use crate::made::Made;
+use crate::made::{picks_for, uses_for};
 use crate::runs::Runs;
-use crate::steps::{Picks, Step, Whom};
+use crate::steps::{Picks, Step};
 use crate::tables::Tables;
-use crate::targets::Targets;
 use block_cfg::point_number;
-use flow_domain::{LocUse, Summary};
+use called_rows::{Made, Whom};
+use flow_domain::LocUse;
 use stack_names::Place;
 use wasm_types::{Loc, NoMemory, Node, Point, Pos};
 use worklist::Graph;
@@ -131,9 +132,9 @@ impl Flow<'_> {
     ) -> Result<(), NoMemory>
         requires node { number (At pos.0) < self.now.tables.numbering.nodes }
         requires loc { (one.reads || one.checks) ≡ true → IsLoc self.now.tables.numbering.globals self.now.tables.numbering.locals one.loc }
-        ensures { IfOk result (λ _. Gains (Numbered self.now.tables.numbering (spec.Use pos.0 (spec.output_of made) one)) next.old.items next.new.items) }
+        ensures { IfOk result (λ _. Gains (Numbered self.now.tables.numbering (spec.Use pos.0 (output_of made) one)) next.old.items next.new.items) }
     {
-        if made.uses(one) {
+        if uses_for(made, one) {
             self.push(Item::Needed(one.loc, Node::At(pos)), next)?;
         }
         Ok(())
@@ -143,7 +144,7 @@ impl Flow<'_> {
     fn push_uses(&self, pos: Pos, made: Made, next: &mut Vec<usize>) -> Result<(), NoMemory>
         requires { number (At pos.0) < self.now.tables.numbering.nodes }
         ensures { IfOk result (λ _. Gains (Numbered self.now.tables.numbering (spec.FromEach (row_in (slice_get self.now.tables.locs.now pos.0))
-            (spec.Use pos.0 (spec.output_of made)))) next.old.items next.new.items) }
+            (spec.Use pos.0 (output_of made)))) next.old.items next.new.items) }
     {
         for one in self.tables.locs.uses(pos.0 as usize) {
             self.push_use(pos, made, *one, next)?;
@@ -159,10 +160,10 @@ impl Flow<'_> {
 
     /// Which operands an output of a position depends on.
     fn picks(&self, pos: Pos, made: Made) -> Picks
-        ensures { result ≡ spec.picks_for (spec.output_of made) (slice_get self.now.tables.steps.now pos.0) }
+        ensures { result ≡ spec.picks_for (output_of made) (slice_get self.now.tables.steps.now pos.0) }
     {
         match self.step(pos) {
-            Some(step) => made.picks(*step),
+            Some(step) => picks_for(made, *step),
             None => Picks::Nothing,
         }
     }
@@ -187,56 +188,6 @@ impl Flow<'_> {
         }
     }
 
-    /// What is known of the targets of a type number.
-    fn targets(&self, kind: u32) -> Option<&Targets>
-        ensures { option_copied result ≡ spec.targets_in (slice_get self.now.tables.targets.now kind) }
-    {
-        match self.tables.targets.get(kind as usize) {
-            Some(known) => known.as_ref(),
-            None => None,
-        }
-    }
-
-    /// Whether the row of whom a call calls has a location.
-    fn calls_for(&self, whom: Whom, made: Made, loc: Loc) -> bool
-        ensures { IsTrue result ↔ spec.RowIn self.now.tables whom (spec.output_of made) loc }
-    {
-        match whom {
-            Whom::Own(func) => match self.tables.rows.get(func) {
-                Some(rows) => made.needs(rows, loc),
-                None => false,
-            },
-            Whom::Through(kind) => match self.targets(kind) {
-                Some(targets) => made.needs(&targets.rows, loc),
-                None => false,
-            },
-        }
-    }
-
-    /// Whether a location decides by itself if a call stops.
-    fn checks(&self, whom: Whom, made: Made, loc: Loc) -> bool
-        requires { IsLoc self.now.tables.numbering.globals self.now.tables.numbering.locals loc }
-        ensures { IsTrue result ↔ spec.ChecksBy self.now.tables whom (spec.output_of made) loc }
-    {
-        match (whom, made) {
-            (Whom::Through(kind), Made::Done) => match self.targets(kind) {
-                Some(targets) => is_marked(&targets.touches, self.tables.numbering.loc_number(loc)),
-                None => false,
-            },
-            _ => false,
-        }
-    }
-
-    /// Whether the row of whom a call calls has a parameter.
-    fn takes_for(&self, whom: Whom, made: Made, index: usize) -> bool
-        ensures { IsTrue result ↔ ((index < 2 ^ 32) × spec.RowIn self.now.tables whom (spec.output_of made) (Loc.Local index)) }
-    {
-        match u32::try_from(index) {
-            Ok(local) => self.calls_for(whom, made, Loc::Local(local)),
-            Err(_) => false,
-        }
-    }
-
     /// An operand of a call, the deepest being 0.
     fn push_argument(
         &self,
@@ -248,10 +199,10 @@ impl Flow<'_> {
     ) -> Result<(), NoMemory>
         requires places { All (λ place. number place.maker < self.now.tables.numbering.nodes) places.now }
         requires index { index < length places.now }
-        ensures { IfOk result (λ _. Gains (Numbered self.now.tables.numbering (spec.ArgumentAt self.now.tables places.now (spec.output_of made) whom index))
+        ensures { IfOk result (λ _. Gains (Numbered self.now.tables.numbering (spec.ArgumentAt self.now.tables places.now (output_of made) whom index))
             next.old.items next.new.items) }
     {
-        if whom.is_last(places.len(), index) || self.takes_for(whom, made, index) {
+        if self.tables.called.takes(whom, made, places.len(), index) {
             let place = places[index];
             self.push(Item::Value(place.maker), next)?;
         }
@@ -268,7 +219,7 @@ impl Flow<'_> {
     ) -> Result<(), NoMemory>
         requires { All (λ place. number place.maker < self.now.tables.numbering.nodes) places.now }
         ensures { IfOk result (λ _. Gains (Numbered self.now.tables.numbering (spec.FromBelow (length places.now) (spec.ArgumentAt self.now.tables places.now
-            (spec.output_of made) whom))) next.old.items next.new.items) }
+            (output_of made) whom))) next.old.items next.new.items) }
     {
         for index in 0..places.len() {
             self.push_argument(places, made, whom, index, next)?;
@@ -287,11 +238,11 @@ impl Flow<'_> {
     ) -> Result<(), NoMemory>
         requires node { number (At pos.0) < self.now.tables.numbering.nodes }
         requires index { index < self.now.tables.numbering.globals + 3 }
-        ensures { IfOk result (λ _. Gains (Numbered self.now.tables.numbering (spec.PlaceAt self.now.tables pos.0 (spec.output_of made) whom index))
+        ensures { IfOk result (λ _. Gains (Numbered self.now.tables.numbering (spec.PlaceAt self.now.tables pos.0 (output_of made) whom index))
             next.old.items next.new.items) }
     {
         let loc = self.tables.numbering.loc(index);
-        if self.calls_for(whom, made, loc) || self.checks(whom, made, loc) {
+        if self.tables.called.has(whom, made, loc) || self.tables.called.checks(whom, made, loc) {
             self.push(Item::Needed(loc, Node::At(pos)), next)?;
         }
         Ok(())
@@ -307,7 +258,7 @@ impl Flow<'_> {
     ) -> Result<(), NoMemory>
         requires { number (At pos.0) < self.now.tables.numbering.nodes }
         ensures { IfOk result (λ _. Gains (Numbered self.now.tables.numbering (spec.FromBelow (self.now.tables.numbering.globals + 3)
-            (spec.PlaceAt self.now.tables pos.0 (spec.output_of made) whom))) next.old.items next.new.items) }
+            (spec.PlaceAt self.now.tables pos.0 (output_of made) whom))) next.old.items next.new.items) }
     {
         for index in 0..self.tables.numbering.globals + 3 {
             self.push_place(pos, made, whom, index, next)?;
@@ -324,7 +275,7 @@ impl Flow<'_> {
         next: &mut Vec<usize>,
     ) -> Result<(), NoMemory>
         requires { number (At pos.0) < self.now.tables.numbering.nodes }
-        ensures { IfOk result (λ _. Gains (Numbered self.now.tables.numbering (spec.ByStep self.now.tables pos.0 (spec.output_of made)
+        ensures { IfOk result (λ _. Gains (Numbered self.now.tables.numbering (spec.ByStep self.now.tables pos.0 (output_of made)
             (slice_get self.now.tables.steps.now pos.0) (Some whom))) next.old.items next.new.items) }
     {
         self.push_arguments(self.tables.names.operands(pos), made, whom, next)?;
@@ -335,7 +286,7 @@ impl Flow<'_> {
     /// From what a position makes that calls nothing.
     fn push_plain(&self, pos: Pos, made: Made, next: &mut Vec<usize>) -> Result<(), NoMemory>
         requires { number (At pos.0) < self.now.tables.numbering.nodes }
-        ensures { IfOk result (λ _. Gains (Numbered self.now.tables.numbering (spec.ByStep self.now.tables pos.0 (spec.output_of made)
+        ensures { IfOk result (λ _. Gains (Numbered self.now.tables.numbering (spec.ByStep self.now.tables pos.0 (output_of made)
             (slice_get self.now.tables.steps.now pos.0) None)) next.old.items next.new.items) }
     {
         let picks = self.picks(pos, made);
@@ -347,7 +298,7 @@ impl Flow<'_> {
     /// From what a position makes.
     fn push_at(&self, pos: Pos, made: Made, next: &mut Vec<usize>) -> Result<(), NoMemory>
         requires { number (At pos.0) < self.now.tables.numbering.nodes }
-        ensures { IfOk result (λ _. Gains (Numbered self.now.tables.numbering (spec.AtNode self.now.tables (spec.output_of made) (Node.At pos)))
+        ensures { IfOk result (λ _. Gains (Numbered self.now.tables.numbering (spec.AtNode self.now.tables (output_of made) (Node.At pos)))
             next.old.items next.new.items) }
     {
         match self.whom(pos) {
@@ -364,7 +315,7 @@ impl Flow<'_> {
 
     fn push_near(&self, node: Node, made: Made, next: &mut Vec<usize>) -> Result<(), NoMemory>
         requires { number node < self.now.tables.numbering.nodes }
-        ensures { IfOk result (λ _. Gains (Numbered self.now.tables.numbering (spec.AtNode self.now.tables (spec.output_of made) node))
+        ensures { IfOk result (λ _. Gains (Numbered self.now.tables.numbering (spec.AtNode self.now.tables (output_of made) node))
             next.old.items next.new.items) }
     {
         match node {
@@ -379,7 +330,7 @@ impl Flow<'_> {
     /// From what a node makes.
     fn push_made(&self, node: Node, made: Made, next: &mut Vec<usize>) -> Result<(), NoMemory>
         requires { number node < self.now.tables.numbering.nodes }
-        ensures { IfOk result (λ _. Gains (Numbered self.now.tables.numbering (spec.Makes self.now.tables (spec.output_of made) node))
+        ensures { IfOk result (λ _. Gains (Numbered self.now.tables.numbering (spec.Makes self.now.tables (output_of made) node))
             next.old.items next.new.items) }
     {
         self.push_near(node, made, next)?;
@@ -493,26 +444,12 @@ impl Flow<'_> {
         Ok(())
     }
 
-    /// Whether a call writes a location.
-    fn call_writes(&self, whom: Whom, loc: Loc) -> bool
-        requires { IsLoc self.now.tables.numbering.globals self.now.tables.numbering.locals loc }
-        ensures { IsTrue result ↔ spec.WritesBy self.now.tables whom loc }
-    {
-        match whom {
-            Whom::Own(func) => self.tables.graph.writes(func, loc),
-            Whom::Through(kind) => match self.targets(kind) {
-                Some(targets) => is_marked(&targets.writes, self.tables.numbering.loc_number(loc)),
-                None => false,
-            },
-        }
-    }
-
     fn writes_at(&self, pos: Pos, loc: Loc) -> bool
         requires { IsLoc self.now.tables.numbering.globals self.now.tables.numbering.locals loc }
         ensures { IsTrue result ↔ spec.WrittenAt self.now.tables pos.0 loc }
     {
         match self.whom(pos) {
-            Some(whom) => self.call_writes(whom, loc),
+            Some(whom) => self.tables.called.writes(whom, loc),
             None => self.tables.locs.writes(pos, loc),
         }
     }

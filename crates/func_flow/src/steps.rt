@@ -1,12 +1,12 @@
 //! What stands at each position of a body, as far as dependence goes.
 
-ghost use Rattle.std.specs.Prelude.{◌≡◌, ◌++◌, ◌∷◌, ◌↔◌, ◌<◌, [], IfOk, IsTrue, OnOk, None, Some, false, true};
+ghost use Rattle.std.specs.Prelude.{◌≡◌, ◌++◌, ◌∷◌, ◌↔◌, [], IfOk, IsTrue, OnOk, None, Some, false, true};
 ghost use Rattle.wasm_types.specs.Actions.{form_of};
 ghost use Rattle.wasm_types.specs.Code.{code_of, done, onto};
 ghost use Rattle.wasm_types.specs.Locations.{divides, number_traps};
-ghost use Rattle.func_flow.specs.Next as next;
 ghost use Rattle.func_flow.specs.Steps as spec;
 
+use called_rows::Whom;
 use std::alloc::Global;
 use wasm_types::{BinOp, Body, Instr, NoMemory, NumOp};
 
@@ -34,26 +34,6 @@ impl Picks {
             Picks::Top => index == 0,
             Picks::Second => index == 1,
             Picks::Outer => index != 1,
-        }
-    }
-}
-
-/// Whom a call calls: a function by its number, or what the table holds for a type number.
-#[derive(Clone, Copy, Debug, PartialEq, Eq)]
-pub(crate) enum Whom {
-    Own(u32),
-    Through(u32),
-}
-
-impl Whom {
-    /// Whether an operand, of so many, is the index of a call through the table.
-    pub(crate) fn is_last(self, count: usize, index: usize) -> bool
-        requires { index < count }
-        ensures { IsTrue result ↔ next.IsLast self count index }
-    {
-        match self {
-            Whom::Own(_) => false,
-            Whom::Through(_) => index + 1 == count,
         }
     }
 }

@@ -2,15 +2,14 @@
 
 use crate::numbering::Numbering;
 use crate::steps::Step;
-use crate::targets::Targets;
 use block_cfg::Cfg;
-use call_graph::CallGraph;
+use called_rows::Called;
 use control_deps::{Deciders, Nest};
-use flow_domain::{LocTable, SummaryTable};
+use flow_domain::LocTable;
 use stack_names::Names;
-use wasm_types::{Body, Module};
+use wasm_types::Body;
 
-/// The tables of one body, the graph of the module's calls, the rows of its functions, and by type number what targets of calls do.
+/// The tables of one body, and what is known of the functions that it calls.
 #[derive(Clone, Copy, Drop)]
 pub(crate) struct Tables<'a> {
     pub(crate) body: &'a Body,
@@ -20,9 +19,6 @@ pub(crate) struct Tables<'a> {
     pub(crate) nest: &'a Nest,
     pub(crate) deciders: &'a Deciders,
     pub(crate) steps: &'a [Step],
-    pub(crate) inside: &'a Module,
-    pub(crate) graph: &'a CallGraph,
-    pub(crate) rows: &'a SummaryTable,
-    pub(crate) targets: &'a [Option<Targets>],
+    pub(crate) called: Called<'a>,
     pub(crate) numbering: Numbering,
 }

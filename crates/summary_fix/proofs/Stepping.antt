@@ -133,25 +133,25 @@ module _ (m : Module) (t u : SummaryTable) (func : ℕ) (s : Summary) (merged : 
       → ((W : Cover) → IsExact m W → (o : Output) (x : Loc) → HasInput s o x → LedTo (TableRows t) (bounds m W) func o x) → IsSound m u
   sound_more sound own made = record { sealed = sound.sealed; table = table_more sound.table own; rounds = rounds_more sound made }
 
+pub own_type : (m : Module) (t : SummaryTable) → IsSound m t → (func : ℕ) → IsSome (body_of m func) → (kind : FuncType) × (type_of_func m func ≡ Some kind)
+own_type m t sound func has =
+    let b = value_of (body_of m func) has in
+    let at = body_at m func b.0 b.1 in
+    own_typed m sound.sealed.valid func at.own at.within
+
 -- what rows are added to a function has the shape of its summary
 pub rows_shape : (m : Module) (t : SummaryTable) → IsSound m t → (func : ℕ) → IsSome (body_of m func) → (s : Summary)
     → ((kind : FuncType) → type_of_func m func ≡ Some kind → IsShape (length (globals_of m)) (length kind.params) s) → (a : Summary)
     → slice_get t.rows.items func ≡ Some a → IsShape a.globals a.params s
 rows_shape m t sound func has s shape a here =
-    let b = value_of (body_of m func) has in
-    let at = body_at m func b.0 b.1 in
-    let typed = own_typed m sound.sealed.valid func at.own at.within in
+    let typed = own_type m t sound func has in
     let old = sound.table.shapes func typed.0 a typed.1 here in
     let new = shape typed.0 typed.1 in
     record { globals_is = new.globals_is ∙ sym old.globals_is; params_is = new.params_is ∙ sym old.params_is }
 
 pub rows_globals : (m : Module) (t : SummaryTable) → IsSound m t → (func : ℕ) → IsSome (body_of m func) → (s : Summary)
     → ((kind : FuncType) → type_of_func m func ≡ Some kind → IsShape (length (globals_of m)) (length kind.params) s) → s.globals ≡ length (globals_of m)
-rows_globals m t sound func has s shape =
-    let b = value_of (body_of m func) has in
-    let at = body_at m func b.0 b.1 in
-    let typed = own_typed m sound.sealed.valid func at.own at.within in
-    (shape typed.0 typed.1).globals_is
+rows_globals m t sound func has s shape = let typed = own_type m t sound func has in (shape typed.0 typed.1).globals_is
 
 -- functions without a body have all their rows from the start
 pub imported_full : (m : Module) (t : SummaryTable) → IsTableOf m t → (f : ℕ) → body_of m f ≡ None → IsFull m t f

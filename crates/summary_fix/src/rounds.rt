@@ -8,9 +8,11 @@ ghost use Rattle.worklist.specs.Search.{IsMarked};
 ghost use Rattle.flow_domain.specs.Reach.{CallsFunc};
 ghost use Rattle.flow_domain.specs.Summaries.{table_room};
 ghost use Rattle.call_graph.specs.Graph.{IsCallGraph, TellsCaller};
+ghost use Rattle.called_rows.specs.Classes.{IsTargetTable};
 ghost use Rattle.summary_fix.specs.Settled.{IsFull, IsSettled, IsSound};
 
 use call_graph::CallGraph;
+use called_rows::TargetTable;
 use flow_domain::SummaryTable;
 use func_flow::flow_rows;
 use std::alloc::Global;
@@ -22,17 +24,21 @@ fn add_rows(
     m: &ValidModule,
     graph: &CallGraph,
     table: &mut SummaryTable,
+    targets: &mut TargetTable,
     func: u32,
 ) -> Result<bool, NoMemory>
     requires graph { IsCallGraph m.now graph.now }
     requires body { IsSome (body_of m.now func) }
     requires sound { IsSound m.now table.old }
+    requires targets { IsTargetTable m.now graph.now table.old targets.old }
     ensures sound { IfOk result (λ _. IsSound m.now table.new) }
+    ensures targets { IfOk result (λ _. IsTargetTable m.now graph.now table.new targets.new) }
     ensures full { IfOk result (λ grew. (IsTrue grew → CallsFunc m.now func func → ⊥) → IsFull m.now table.new func) }
     ensures others { IfOk result (λ grew. (f : ℕ) → IsFull m.now table.old f → (IsTrue grew → CallsFunc m.now f func → ⊥) → IsFull m.now table.new f) }
     ensures room { IfOk result (λ grew. table_room table.new + (if grew then 1 else 0) ≤ table_room table.old) }
 {
-    let rows = flow_rows(alloc, m, func, graph, table)?;
+    let rows = flow_rows(alloc, m, func, graph, table, targets)?;
+    targets.add(graph, func, &rows);
     let grew = table.merge(func, &rows);
     Ok(grew)
 }
@@ -43,18 +49,21 @@ fn add_all(
     m: &ValidModule,
     graph: &CallGraph,
     table: &mut SummaryTable,
+    targets: &mut TargetTable,
     func: u32,
 ) -> Result<(), NoMemory>
     requires graph { IsCallGraph m.now graph.now }
     requires body { IsSome (body_of m.now func) }
     requires sound { IsSound m.now table.old }
+    requires targets { IsTargetTable m.now graph.now table.old targets.old }
     ensures sound { IfOk result (λ _. IsSound m.now table.new) }
+    ensures targets { IfOk result (λ _. IsTargetTable m.now graph.now table.new targets.new) }
     ensures full { IfOk result (λ _. IsFull m.now table.new func) }
     ensures others { IfOk result (λ _. (f : ℕ) → IsFull m.now table.old f → (CallsFunc m.now f func → ⊥) → IsFull m.now table.new f) }
     ensures room { IfOk result (λ _. table_room table.new ≤ table_room table.old) }
 {
     loop {
-        let grew = add_rows(alloc, m, graph, table, func)?;
+        let grew = add_rows(alloc, m, graph, table, targets, func)?;
         if !grew {
             return Ok(());
         }
@@ -67,20 +76,23 @@ fn fill_own(
     m: &ValidModule,
     graph: &CallGraph,
     table: &mut SummaryTable,
+    targets: &mut TargetTable,
     func: u32,
 ) -> Result<bool, NoMemory>
     requires graph { IsCallGraph m.now graph.now }
     requires func { IsFunction m.now func }
     requires body { IsSome (body_of m.now func) }
     requires sound { IsSound m.now table.old }
+    requires targets { IsTargetTable m.now graph.now table.old targets.old }
     ensures sound { IfOk result (λ _. IsSound m.now table.new) }
+    ensures targets { IfOk result (λ _. IsTargetTable m.now graph.now table.new targets.new) }
     ensures full { IfOk result (λ _. IsFull m.now table.new func) }
     ensures others { IfOk result (λ grew. (f : ℕ) → IsFull m.now table.old f → (IsTrue grew → CallsFunc m.now f func → ⊥) → IsFull m.now table.new f) }
     ensures room { IfOk result (λ grew. table_room table.new + (if grew then 1 else 0) ≤ table_room table.old) }
 {
-    let grew = add_rows(alloc, m, graph, table, func)?;
+    let grew = add_rows(alloc, m, graph, table, targets, func)?;
     if grew && graph.calls(func, func) {
-        add_all(alloc, m, graph, table, func)?;
+        add_all(alloc, m, graph, table, targets, func)?;
     }
     Ok(grew)
 }
@@ -91,19 +103,22 @@ fn fill(
     m: &ValidModule,
     graph: &CallGraph,
     table: &mut SummaryTable,
+    targets: &mut TargetTable,
     func: u32,
 ) -> Result<bool, NoMemory>
     requires graph { IsCallGraph m.now graph.now }
     requires func { IsFunction m.now func }
     requires sound { IsSound m.now table.old }
+    requires targets { IsTargetTable m.now graph.now table.old targets.old }
     ensures sound { IfOk result (λ _. IsSound m.now table.new) }
+    ensures targets { IfOk result (λ _. IsTargetTable m.now graph.now table.new targets.new) }
     ensures full { IfOk result (λ _. IsFull m.now table.new func) }
     ensures others { IfOk result (λ grew. (f : ℕ) → IsFull m.now table.old f → (IsTrue grew → CallsFunc m.now f func → ⊥) → IsFull m.now table.new f) }
     ensures room { IfOk result (λ grew. table_room table.new + (if grew then 1 else 0) ≤ table_room table.old) }
 {
     match m.module().body(func) {
         Some(_) => {
-            let grew = fill_own(alloc, m, graph, table, func)?;
+            let grew = fill_own(alloc, m, graph, table, targets, func)?;
             Ok(grew)
         }
         None => Ok(false),
@@ -162,6 +177,7 @@ fn refresh(
     m: &ValidModule,
     graph: &CallGraph,
     table: &mut SummaryTable,
+    targets: &mut TargetTable,
     wanted: &[bool],
     marks: &mut [bool],
     func: usize,
@@ -169,14 +185,16 @@ fn refresh(
     requires graph { IsCallGraph m.now graph.now }
     requires func { IsFunction m.now func }
     requires sound { IsSound m.now table.old }
+    requires targets { IsTargetTable m.now graph.now table.old targets.old }
     requires settled { IsSettled m.now table.old wanted.now marks.old }
     ensures sound { IfOk result (λ _. IsSound m.now table.new) }
+    ensures targets { IfOk result (λ _. IsTargetTable m.now graph.now table.new targets.new) }
     ensures settled { IfOk result (λ _. IsSettled m.now table.new wanted.now marks.new) }
     ensures room { IfOk result (λ grew. table_room table.new + (if grew then 1 else 0) ≤ table_room table.old) }
     ensures full { IfOk result (λ grew. grew ≡ false → (f : ℕ) → IsMarked marks.new f → IsMarked marks.old f × (f ≢ func)) }
 {
     marks[func] = false;
-    let grew = fill(alloc, m, graph, table, func as u32)?;
+    let grew = fill(alloc, m, graph, table, targets, func as u32)?;
     if grew {
         mark_callers(alloc, m, graph, wanted, marks, func)?;
     }
@@ -189,6 +207,7 @@ fn pass(
     m: &ValidModule,
     graph: &CallGraph,
     table: &mut SummaryTable,
+    targets: &mut TargetTable,
     wanted: &[bool],
     marks: &mut [bool],
     order: &[usize],
@@ -196,8 +215,10 @@ fn pass(
     requires graph { IsCallGraph m.now graph.now }
     requires order { All (λ f. IsFunction m.now f) order.now }
     requires sound { IsSound m.now table.old }
+    requires targets { IsTargetTable m.now graph.now table.old targets.old }
     requires settled { IsSettled m.now table.old wanted.now marks.old }
     ensures sound { IfOk result (λ _. IsSound m.now table.new) }
+    ensures targets { IfOk result (λ _. IsTargetTable m.now graph.now table.new targets.new) }
     ensures settled { IfOk result (λ _. IsSettled m.now table.new wanted.now marks.new) }
     ensures room { IfOk result (λ grew. table_room table.new + (if grew then 1 else 0) ≤ table_room table.old) }
     ensures full { IfOk result (λ grew. grew ≡ false → (f : ℕ) → Contains order.now f → IsMarked marks.new f → ⊥) }
@@ -205,7 +226,7 @@ fn pass(
     let mut grew = false;
     for func in order {
         if marks[*func] {
-            if refresh(alloc, m, graph, table, wanted, marks, *func)? {
+            if refresh(alloc, m, graph, table, targets, wanted, marks, *func)? {
                 grew = true;
             }
         }
@@ -228,10 +249,20 @@ pub(crate) fn settle(
     ensures sound { IfOk result (λ _. IsSound m.now table.new) }
     ensures full { IfOk result (λ _. (f : ℕ) → IsFunction m.now f → IsMarked wanted.now f → IsFull m.now table.new f) }
 {
+    let mut targets = TargetTable::of(alloc, m, graph, table)?;
     let mut marks = Vec::new(alloc);
     marks.extend_from_slice(wanted).map_err(|_| NoMemory)?;
     loop {
-        let grew = pass(alloc, m, graph, table, wanted, &mut marks, graph.order())?;
+        let grew = pass(
+            alloc,
+            m,
+            graph,
+            table,
+            &mut targets,
+            wanted,
+            &mut marks,
+            graph.order(),
+        )?;
         if !grew {
             return Ok(());
         }

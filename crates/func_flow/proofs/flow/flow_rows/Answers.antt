@@ -1,11 +1,8 @@
-use Rattle.std.proofs.Common.{◌≡◌, ◌≤◌, ◌∙◌, List, Option, length, sym, subst}
+use Rattle.std.proofs.Common.{◌≡◌, ◌≤◌, ◌∙◌, length, sym, subst}
 use Rattle.wasm_types.specs.Funcs.{unwatched}
 use Rattle.wasm_types.specs.Spaces.{body_of, globals_of}
 use Rattle.flow_domain.specs.Summaries.{IsKnown}
 use Rattle.slice_closure.proofs.Right.{names_same}
-use Rattle.func_flow.specs.declared.steps.Step.{Step}
-use Rattle.func_flow.specs.declared.targets.Targets.{Targets}
-use Rattle.func_flow.specs.Targets.{AreAllTargets}
 use Rattle.func_flow.proofs.FlowLemmas.{value_of, own_at}
 use Rattle.func_flow.proofs.flow.flow_rows.Goals as goal
 
@@ -19,11 +16,6 @@ value_names-requires-clause-own c =
     let m = c.args.m.now in
     let body = value_of (body_of m c.args.func) c.requires.own in (own_at m c.args.func body.0 body.1).1
 
-pub all_targets-requires-clause-globals : goal.all_targets-requires-clause-globals
-all_targets-requires-clause-globals c =
-    let a = c.in_ok-names.ensures unwatched in
-    c.numbering_of-numbering.ensures.globals ∙ (c.own_rows-own.ensures a.kind a.kind_is).globals_is
-
 pub rows_by-requires-clause-made : goal.rows_by-requires-clause-made
 rows_by-requires-clause-made c =
     let m = c.args.m.now in
@@ -36,23 +28,18 @@ rows_by-requires-clause-made c =
     record {
       sealed = c.own_body-body.ensures.sealed;
       heights = c.law_valid_has_heights.ensures;
-      inside = c.module-inside.ensures.same;
       names = a;
       same = names_same m c.args.func unwatched c.in_ok-names.names a b is;
       cfg = c.in_ok-cfg.ensures;
       plain = c.in_ok-locs.ensures b is;
       nest = c.in_ok-nest.ensures;
       near = c.in_ok-deciders.ensures;
-      steps = c.deref-2.ensures.value ∙ c.in_ok-steps.ensures;
-      graph = c.requires.graph;
-      table = c.requires.table;
+      steps = c.deref.ensures.value ∙ c.in_ok-steps.ensures;
+      called = c.new-called.ensures.called m c.requires.graph c.requires.table c.requires.targets;
       globals = numbered.globals ∙ shape.globals_is;
       nodes = numbered.nodes;
       locals = numbered.locals;
       params = subst (λ n. n ≤ K.locals) shape.params_is numbered.params;
-      targets = subst (λ (known : List (Option Targets)). AreAllTargets m c.args.table.now K.globals c.deref-2.result.now known) (sym c.deref-3.ensures.value)
-          (subst (λ (steps : List Step). AreAllTargets m c.args.table.now K.globals steps c.in_ok-targets.targets.items)
-          (c.deref.ensures.value ∙ sym c.deref-2.ensures.value) c.in_ok-targets.ensures);
     }
 
 pub rows_by-requires-clause-globals : goal.rows_by-requires-clause-globals
@@ -75,4 +62,4 @@ returns-clause-exact c = λ W exact o known x.
     let a = c.in_ok-names.ensures unwatched in
     let same : c.globals-globals.result ≡ length (globals_of c.args.m.now) =
     c.globals-globals.ensures ∙ (c.own_rows-own.ensures a.kind a.kind_is).globals_is in
-    c.in_ok-rows.ensures.exact W exact o (subst (λ g. IsKnown g o) (sym same) known) x
+    rw c.new-called.ensures.rows at (c.in_ok-rows.ensures.exact W exact o (subst (λ g. IsKnown g o) (sym same) known) x)

@@ -2,8 +2,8 @@ use Rattle.std.proofs.Common.{◌≡◌, ◌<◌, ◌∙◌, Some, None, length,
 use Rattle.std.specs.Prelude.{slice_get}
 use Rattle.std.specs.Option.{option_copied}
 use Rattle.wasm_types.specs.Spaces.{body_of}
+use Rattle.called_rows.proofs.ClassLemmas.{element}
 use Rattle.func_flow.proofs.FlowLemmas.{value_of, own_at}
-use Rattle.func_flow.proofs.TargetLemmas.{none_past}
 use Rattle.func_flow.proofs.flow.own_rows.Goals as goal
 
 pub unreachable-requires : goal.unreachable-requires
@@ -15,7 +15,9 @@ unreachable-requires c =
     let within = (own_at m c.args.func body.0 body.1).1 in
     let long = c.requires.table.long in
     let lt : c.args.func < length rows = omega arith in
-    none_past rows c.args.func none lt
+    let some = element rows c.args.func lt in
+    let wrong : None ≡ Some some.0 = sym none ∙ some.1 in
+    absurd cc
 
 pub returns : goal.returns
 returns c = λ t typed.

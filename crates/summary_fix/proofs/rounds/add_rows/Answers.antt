@@ -1,7 +1,19 @@
-use Rattle.summary_fix.proofs.Stepping.{apart_of, has_known, rows_shape, rows_globals, sound_more, full_more, full_made}
+use Rattle.called_rows.proofs.ClassLemmas.{takes_rows}
+use Rattle.summary_fix.proofs.Stepping.{own_type, apart_of, has_known, rows_shape, rows_globals, sound_more, full_more, full_made}
 use Rattle.summary_fix.proofs.Owned.{value_of, body_at}
 use Rattle.wasm_types.specs.Spaces.{body_of}
 use Rattle.summary_fix.proofs.rounds.add_rows.Goals as goal
+
+pub add-requires : goal.add-requires
+add-requires c =
+    let m = c.args.m.now in
+    let typed = own_type m c.args.table.now c.requires.sound c.args.func c.requires.body in
+    takes_rows m c.args.graph.now c.args.table.now c.args.targets.now c.requires.targets c.args.func typed.0 typed.1 c.in_ok-rows.rows
+    (c.in_ok-rows.ensures.shape typed.0 typed.1)
+
+pub returns-clause-targets : goal.returns-clause-targets
+returns-clause-targets c =
+    c.add.ensures c.args.m.now c.args.table.now c.merge-grew.new.self c.requires.graph c.merge-grew.ensures.merged c.requires.targets
 
 pub merge-grew-requires-clause-shape : goal.merge-grew-requires-clause-shape
 merge-grew-requires-clause-shape c =

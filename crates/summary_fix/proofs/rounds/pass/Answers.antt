@@ -4,6 +4,8 @@ use Rattle.std.proofs.lemmas.List.{take_all}
 use Rattle.worklist.specs.Search.{IsMarked}
 use Rattle.flow_domain.specs.Summaries.{table_room}
 use Rattle.flow_domain.specs.declared.summary_table.SummaryTable.{SummaryTable}
+use Rattle.called_rows.specs.declared.classes.TargetTable.{TargetTable}
+use Rattle.called_rows.specs.Classes.{IsTargetTable}
 use Rattle.summary_fix.specs.Settled.{IsSettled, IsSound}
 use Rattle.summary_fix.proofs.Marking.{grown_room, kept_room, none_marked}
 use Rattle.summary_fix.proofs.rounds.pass.Goals as goal
@@ -12,6 +14,7 @@ use Rattle.summary_fix.proofs.rounds.pass.Goals.{then-marks-func+in_ok-refresh+t
 pub loop-func-preserved : goal.loop-func-preserved
 loop-func-preserved c =
     let m = c.args.m.now in
+    let g = c.args.graph.now in
     let wanted = c.args.wanted.now in
     let order = c.args.order.now in
     let i = c.loop-func.func-index in
@@ -20,6 +23,8 @@ loop-func-preserved c =
     elim c.if-marks-func.branch [
       | then-marks-func+in_ok-refresh+then-branch w ↦ record {
         sound = subst (λ (t : SummaryTable). IsSound m t) (sym w.table-is) w.in_ok-refresh.ensures.sound;
+        targets = subst (λ (t : SummaryTable). IsTargetTable m g t c.if-marks-func.targets) (sym w.table-is)
+            (subst (λ (u : TargetTable). IsTargetTable m g w.refresh.new.table u) (sym w.targets-is) w.in_ok-refresh.ensures.targets);
         settled = subst (λ (t : SummaryTable). IsSettled m t wanted c.if-marks-func.marks) (sym w.table-is)
             (subst (λ (ms : List Bool). IsSettled m w.refresh.new.table wanted ms) (sym w.marks-is) w.in_ok-refresh.ensures.settled);
         room =
@@ -29,6 +34,8 @@ loop-func-preserved c =
       }
       | then-marks-func+in_ok-refresh+else-branch w ↦ record {
         sound = subst (λ (t : SummaryTable). IsSound m t) (sym w.table-is) w.in_ok-refresh.ensures.sound;
+        targets = subst (λ (t : SummaryTable). IsTargetTable m g t c.if-marks-func.targets) (sym w.table-is)
+            (subst (λ (u : TargetTable). IsTargetTable m g w.refresh.new.table u) (sym w.targets-is) w.in_ok-refresh.ensures.targets);
         settled = subst (λ (t : SummaryTable). IsSettled m t wanted c.if-marks-func.marks) (sym w.table-is)
             (subst (λ (ms : List Bool). IsSettled m w.refresh.new.table wanted ms) (sym w.marks-is) w.in_ok-refresh.ensures.settled);
         room =
@@ -39,6 +46,8 @@ loop-func-preserved c =
       }
       | else-marks-func w ↦ record {
         sound = subst (λ (t : SummaryTable). IsSound m t) (sym w.table-is) old.sound;
+        targets = subst (λ (t : SummaryTable). IsTargetTable m g t c.if-marks-func.targets) (sym w.table-is)
+            (subst (λ (u : TargetTable). IsTargetTable m g c.loop-func.table u) (sym w.targets-is) old.targets);
         settled = subst (λ (t : SummaryTable). IsSettled m t wanted c.if-marks-func.marks) (sym w.table-is)
             (subst (λ (ms : List Bool). IsSettled m c.loop-func.table wanted ms) (sym w.marks-is) old.settled);
         room =

@@ -1,10 +1,12 @@
 use Rattle.flow_domain.specs.Summaries.{table_room}
+use Rattle.called_rows.specs.Classes.{IsTargetTable}
 use Rattle.summary_fix.specs.Settled.{IsSettled, IsSound}
 use Rattle.summary_fix.proofs.rounds.settle.Given as goal
 
 abbrev pub invariant-loop-marks : goal.invariant-loop-marks
 invariant-loop-marks l = record {
   sound : IsSound l.m l.table;
+  targets : IsTargetTable l.m l.graph l.table l.targets;
   settled : IsSettled l.m l.table l.wanted l.marks.items;
 }
 

@@ -1,4 +1,5 @@
-use Rattle.func_flow.specs.Next.{ArgumentAt, output_of}
+use Rattle.called_rows.specs.Whom.{output_of}
+use Rattle.func_flow.specs.Next.{ArgumentAt}
 use Rattle.func_flow.proofs.Pushes.{below_start, below_next}
 use Rattle.func_flow.proofs.search.Flow.push_arguments.Goals as goal
 

@@ -1,9 +1,10 @@
 use Rattle.std.proofs.Common.{Option, subst}
 use Rattle.std.specs.Prelude.{slice_get}
 use Rattle.worklist.specs.Gains.{Gains}
-use Rattle.func_flow.specs.declared.steps.Whom.{Whom}
+use Rattle.called_rows.specs.declared.instrs.Whom.{Whom}
 use Rattle.func_flow.specs.Items.{Numbered}
-use Rattle.func_flow.specs.Next.{ByStep, output_of}
+use Rattle.called_rows.specs.Whom.{output_of}
+use Rattle.func_flow.specs.Next.{ByStep}
 use Rattle.func_flow.proofs.search.Flow.push_at.Goals as goal
 
 pub returns-in_ok-push_call-in-Some : goal.returns-in_ok-push_call-in-Some

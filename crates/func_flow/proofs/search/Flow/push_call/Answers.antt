@@ -1,5 +1,6 @@
 use Rattle.std.proofs.Common.{◌+◌, length}
-use Rattle.func_flow.specs.Next.{FromBelow, ArgumentAt, PlaceAt, operands_at, output_of}
+use Rattle.called_rows.specs.Whom.{output_of}
+use Rattle.func_flow.specs.Next.{FromBelow, ArgumentAt, PlaceAt, operands_at}
 use Rattle.func_flow.proofs.Pushes.{numbered_both}
 use Rattle.func_flow.proofs.search.Flow.push_call.Goals as goal
 

@@ -1,6 +1,7 @@
 use Rattle.std.proofs.Common.{◌≡◌}
 use Rattle.func_flow.specs.declared.items.Item.TheVariants.{Decided}
-use Rattle.func_flow.specs.Next.{AtNode, output_of}
+use Rattle.called_rows.specs.Whom.{output_of}
+use Rattle.func_flow.specs.Next.{AtNode}
 use Rattle.func_flow.proofs.Pushes.{numbered_both}
 use Rattle.func_flow.proofs.search.Flow.push_made.Goals as goal
 

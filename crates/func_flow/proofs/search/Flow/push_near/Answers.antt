@@ -2,7 +2,8 @@ use Rattle.std.proofs.Common.{sym, subst}
 use Rattle.wasm_types.specs.declared.place.Node.{Node}
 use Rattle.worklist.specs.Gains.{Gains}
 use Rattle.func_flow.specs.Items.{Numbered}
-use Rattle.func_flow.specs.Next.{AtNode, output_of}
+use Rattle.called_rows.specs.Whom.{output_of}
+use Rattle.func_flow.specs.Next.{AtNode}
 use Rattle.func_flow.proofs.search.Flow.push_near.Goals as goal
 
 pub returns-in_ok-push_at-in-At : goal.returns-in_ok-push_at-in-At

@@ -1,20 +1,22 @@
 use Rattle.std.proofs.Common.{◌≡◌, ◌∙◌, sym, ap, subst, inl, inr, ◌⊎◌, ⊎_elim}
 use Rattle.wasm_types.specs.Nodes.{At}
 use Rattle.func_flow.specs.declared.items.Item.TheVariants.{Needed}
-use Rattle.func_flow.specs.Next.{PlaceAt, RowIn, ChecksBy, output_of}
+use Rattle.called_rows.specs.Called.{ChecksBy, RowIn}
+use Rattle.called_rows.specs.Whom.{output_of}
+use Rattle.func_flow.specs.Next.{PlaceAt}
 use Rattle.func_flow.proofs.Pushes.{numbered_same, numbered_none}
 use Rattle.func_flow.proofs.Numbers.{loc_injective}
 use Rattle.func_flow.proofs.search.Flow.push_place.Goals as goal
-use Rattle.func_flow.proofs.search.Flow.push_place.Goals.{then-calls_for-via-then-calls_for, then-calls_for-via-else-calls_for+then-checks}
+use Rattle.func_flow.proofs.search.Flow.push_place.Goals.{then-has-via-then-has, then-has-via-else-has+then-checks}
 
 pub returns-in_ok-push : goal.returns-in_ok-push
 returns-in_ok-push c =
     let t = c.args.self.now.tables in
     let o = output_of c.args.made in
     let x = c.loc-loc.result in
-    let needed : RowIn t c.args.whom o x ⊎ ChecksBy t c.args.whom o x = elim c.then-calls_for.branch [
-      | then-calls_for-via-then-calls_for w ↦ inl (c.calls_for.ensures.0 w.if-calls_for.true)
-      | then-calls_for-via-else-calls_for+then-checks w ↦ inr (w.checks.ensures.0 w.if-checks.true)
+    let needed : RowIn t.called c.args.whom o x ⊎ ChecksBy t.called c.args.whom o x = elim c.then-has.branch [
+      | then-has-via-then-has w ↦ inl (c.has.ensures.0 w.if-has.true)
+      | then-has-via-else-has+then-checks w ↦ inr (w.checks.ensures.0 w.if-checks.true)
     ] in
     numbered_same t.numbering (λ j. j ≡ Needed x (At c.args.pos.0)) (PlaceAt t c.args.pos.0 o c.args.whom c.args.index) c.args.next.now.items
     c.push.new.next.items
@@ -32,6 +34,6 @@ returns-else-checks c =
     (λ j (y, (ok, (at_i, (on, e)))).
     let same : y ≡ x = loc_injective t.numbering.globals t.numbering.locals y x ok c.loc-loc.ensures.there (at_i ∙ sym c.loc-loc.ensures.number) in
     ⊎_elim
-    (λ row. let set = c.calls_for.ensures.1 (subst (λ z. RowIn t c.args.whom o z) same row) in let off = c.if-calls_for.false in cc)
-    (λ check. let set = c.checks.ensures.1 (subst (λ z. ChecksBy t c.args.whom o z) same check) in let off = c.if-checks.false in cc)
+    (λ row. let set = c.has.ensures.1 (subst (λ z. RowIn t.called c.args.whom o z) same row) in let off = c.if-has.false in cc)
+    (λ check. let set = c.checks.ensures.1 (subst (λ z. ChecksBy t.called c.args.whom o z) same check) in let off = c.if-checks.false in cc)
     on)

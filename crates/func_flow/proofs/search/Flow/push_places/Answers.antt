@@ -1,5 +1,6 @@
 use Rattle.std.proofs.Common.{◌≡◌, ◌+◌, arith}
-use Rattle.func_flow.specs.Next.{PlaceAt, output_of}
+use Rattle.called_rows.specs.Whom.{output_of}
+use Rattle.func_flow.specs.Next.{PlaceAt}
 use Rattle.func_flow.proofs.Pushes.{below_start, below_next, below_all}
 use Rattle.func_flow.proofs.search.Flow.push_places.Goals as goal
 

@@ -1,6 +1,7 @@
 use Rattle.std.specs.Prelude.{slice_get}
 use Rattle.flow_domain.specs.LocTables.{row_in}
-use Rattle.func_flow.specs.Next.{FromEach, Picked, Use, operands_at, picks_for, output_of}
+use Rattle.called_rows.specs.Whom.{output_of}
+use Rattle.func_flow.specs.Next.{FromEach, Picked, Use, operands_at, picks_for}
 use Rattle.func_flow.proofs.Pushes.{numbered_both}
 use Rattle.func_flow.proofs.search.Flow.push_plain.Goals as goal
 

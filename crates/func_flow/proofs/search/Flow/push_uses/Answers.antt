@@ -1,4 +1,5 @@
-use Rattle.func_flow.specs.Next.{Use, output_of}
+use Rattle.called_rows.specs.Whom.{output_of}
+use Rattle.func_flow.specs.Next.{Use}
 use Rattle.func_flow.proofs.Pushes.{each_more}
 use Rattle.func_flow.proofs.search.Flow.push_uses.Goals as goal
 

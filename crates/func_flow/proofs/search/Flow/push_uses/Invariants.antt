@@ -1,7 +1,8 @@
 use Rattle.std.proofs.Common.{take}
 use Rattle.worklist.specs.Gains.{Gains}
 use Rattle.func_flow.specs.Items.{Numbered}
-use Rattle.func_flow.specs.Next.{FromEach, Use, output_of}
+use Rattle.func_flow.specs.Next.{FromEach, Use}
+use Rattle.called_rows.specs.Whom.{output_of}
 use Rattle.func_flow.proofs.search.Flow.push_uses.Given as goal
 
 abbrev pub invariant-loop-one : goal.invariant-loop-one
