@@ -60,11 +60,11 @@ use Rattle.func_flow.specs.Next.{FromBelow, WritesAs, WrittenAt, holder_item, op
 use Rattle.func_flow.specs.Next.{ArgumentAt, PlaceAt, ByStep, Condition, Outward, Passes, Next, Makes as MakesNext, First, Stop}
 use Rattle.flow_domain.specs.Summaries.{row_number}
 use Rattle.flow_domain.proofs.Summing.{among_is, among_some, row_once}
-use Rattle.func_flow.proofs.Placed.{front_get, get_front, placed_long, top_maker, maker_top, deep_maker, maker_deep, front_long, unreversed}
-use Rattle.func_flow.proofs.Placed.{operands_are}
 use Rattle.func_flow.proofs.FormKinds.{picked_traps, traps_picked}
 use Rattle.slice_closure.proofs.Joined.{Comes}
 use Rattle.slice_closure.proofs.Makers.{site_among, among_site}
+use Rattle.slice_closure.proofs.Placed.{front_get, get_front, placed_long, top_maker, maker_top, deep_maker, maker_deep, front_long, unreversed}
+use Rattle.slice_closure.proofs.Placed.{operands_are}
 
 -- the tables are those of the body with these sites and live ends
 pub record AreRight (B : Bounds) (R : CallRows) (S : Sites) (ends : List EndAt) (T : Node → ValType) (t : Tables) : Type 0 where

@@ -2,7 +2,6 @@ pub mod Numbers
 pub mod Marking
 pub mod Pushes
 pub mod StepLemmas
-pub mod Placed
 pub mod FormKinds
 pub mod Exact
 pub mod Forward

@@ -18,6 +18,7 @@ use Rattle.wasm_types.specs.Reaching.{Table, Writes, writes_it}
 use Rattle.block_cfg.specs.Graph.{number}
 use Rattle.block_cfg.proofs.MemberLemmas.{among_of, contains_of}
 use Rattle.slice_closure.proofs.Joined.{among_is, is_among_of}
+use Rattle.slice_closure.proofs.Placed.{top_read}
 use Rattle.wasm_types.specs.Code.{code_of}
 use Rattle.control_deps.specs.Nest.{IsAround, IsNestOf}
 use Rattle.worklist.specs.Gains.{Gains}
@@ -35,7 +36,6 @@ use Rattle.called_rows.specs.declared.instrs.Whom.{Whom}
 use Rattle.func_flow.specs.Steps.{IsPicked}
 use Rattle.called_rows.specs.Called.{TakesIn}
 use Rattle.func_flow.specs.Next.{FromEach, FromBelow, IsHolder, AreMarked, PickedAt, ArgumentAt}
-use Rattle.func_flow.proofs.Placed.{top_read}
 
 none_there : {A : Type 0} (x : A) → Contains [] x → ⊥
 none_there x (k, lt, is) = omega arith
