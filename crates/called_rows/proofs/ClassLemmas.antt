@@ -11,6 +11,8 @@ use Rattle.wasm_types.specs.declared.module.FuncType.{FuncType}
 use Rattle.wasm_types.specs.declared.module.Module.{Module}
 use Rattle.wasm_types.specs.declared.place.Loc.{Loc}
 use Rattle.wasm_types.specs.Spaces.{func_types, globals_of, type_numbered, type_of_func}
+use Rattle.body_check.specs.declared.spaces.Spaces.{Spaces}
+use Rattle.body_check.specs.Numbered.{Describes}
 use Rattle.flow_domain.specs.declared.summary.Summary.{Summary}
 use Rattle.flow_domain.specs.declared.summary_table.SummaryTable.{SummaryTable}
 use Rattle.flow_domain.specs.Reach.{MayWrite}
@@ -160,13 +162,15 @@ module _ (m : Module) (g : CallGraph) (f : ℕ) (s : Summary) (old new : Summary
   pub table_same : (T : TargetTable) → ((c : ℕ) → HasClass g.classes f c → ⊥) → IsTargetTable m g old T → IsTargetTable m g new T
   table_same T apart is = record {
     globals = is.globals;
+    spaces = is.spaces;
     classes = record { long = is.classes.long; each = λ c u at. together_same c u (apart c) (is.classes.each c u at) };
   }
 
-  pub table_grown : (T U : TargetTable) (c : ℕ) → HasClass g.classes f c → U.globals ≡ T.globals → (u : Targets) → slice_get T.by_class.items c ≡ Some u
-      → IsMergedAt c s T.by_class.items U.by_class.items → IsTargetTable m g old T → IsTargetTable m g new U
-  table_grown T U c has same u at grown is = record {
+  pub table_grown : (T U : TargetTable) (c : ℕ) → HasClass g.classes f c → U.globals ≡ T.globals → U.spaces ≡ T.spaces → (u : Targets)
+      → slice_get T.by_class.items c ≡ Some u → IsMergedAt c s T.by_class.items U.by_class.items → IsTargetTable m g old T → IsTargetTable m g new U
+  table_grown T U c has same kept u at grown is = record {
     globals = same ∙ is.globals;
+    spaces = subst (λ (z : Spaces). Describes z m) (sym kept) is.spaces;
     classes = record {
       long = grown.long ∙ is.classes.long;
       each = λ d v here. elim (cases_eq d c) [

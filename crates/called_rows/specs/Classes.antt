@@ -4,6 +4,7 @@ use Rattle.wasm_types.specs.declared.module.FuncType.{FuncType}
 use Rattle.wasm_types.specs.declared.module.Module.{Module}
 use Rattle.wasm_types.specs.declared.place.Loc.{Loc}
 use Rattle.wasm_types.specs.Spaces.{globals_of, type_of_func}
+use Rattle.body_check.specs.Numbered.{Describes}
 use Rattle.flow_domain.specs.declared.summary.Summary.{Summary}
 use Rattle.flow_domain.specs.declared.summary_table.SummaryTable.{SummaryTable}
 use Rattle.flow_domain.specs.Reach.{MayWrite}
@@ -35,6 +36,7 @@ pub record AreClasses (m : Module) (g : CallGraph) (t : SummaryTable) (all : Lis
 
 pub record IsTargetTable (m : Module) (g : CallGraph) (t : SummaryTable) (T : TargetTable) : Type 0 where
   pub globals : T.globals ≡ length (globals_of m)
+  pub spaces : Describes T.spaces m
   pub classes : AreClasses m g t T.by_class.items
 
 -- there is such a class, and rows of its shape

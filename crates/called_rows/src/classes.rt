@@ -24,10 +24,11 @@ pub(crate) struct Targets {
     pub(crate) touches: Vec<bool>,
 }
 
-/// What the functions of each class do, taken together: each class is gone through once, and not for each call.
+/// What the functions of each class do, taken together: each class is gone through once, and not for each call. And what the module names by number.
 #[derive(Drop)]
 pub struct TargetTable {
     globals: u32,
+    spaces: Spaces,
     by_class: Vec<Targets>,
 }
 
@@ -108,7 +109,11 @@ impl TargetTable {
         let spaces = Spaces::new(alloc, m.module())?;
         let globals = spaces.globals.len() as u32;
         let by_class = all_targets(alloc, m, graph, table, globals)?;
-        Ok(TargetTable { globals, by_class })
+        Ok(TargetTable {
+            globals,
+            spaces,
+            by_class,
+        })
     }
 
     /// Adds the rows that are added to those of a function.
@@ -121,6 +126,13 @@ impl TargetTable {
             return;
         };
         merge(&mut self.by_class, class, rows);
+    }
+
+    /// What the module names by number.
+    pub fn spaces(&self) -> &Spaces
+        ensures { result.now ≡ self.now.spaces }
+    {
+        &self.spaces
     }
 
     /// How many globals the module has.

@@ -36,7 +36,7 @@ use called_rows::{Called, TargetTable};
 use control_deps::{Deciders, Nest};
 use flow_domain::{LocTable, Summary, SummaryTable, plain_locs};
 use sparse_reach::reach_sparse;
-use stack_names::value_names;
+use stack_names::value_names_by;
 use stack_repair::law_valid_has_heights;
 use std::alloc::Global;
 use wasm_types::{Body, Instr, NoMemory, Node, Point, Pos, ValidModule};
@@ -187,7 +187,7 @@ pub fn flow_rows(
     law_valid_has_heights();
     let body = own_body(m, func);
     let own = own_rows(m, func, table);
-    let names = value_names(alloc, m, func)?;
+    let names = value_names_by(alloc, m, targets.spaces(), func)?;
     let cfg = edges(alloc, body)?;
     let locs = plain_locs(alloc, m, func)?;
     let nest = Nest::of(alloc, body)?;

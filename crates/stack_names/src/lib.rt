@@ -17,7 +17,7 @@ mod stack;
 mod trail;
 mod walk;
 
-pub use naming::{end_names, names, operand_names, value_names};
+pub use naming::{end_names, names, operand_names, value_names, value_names_by};
 pub use place::Place;
 pub use readers::Names;
 pub use wasm_types::{Node, Point, Taker};

@@ -1,20 +1,26 @@
 use Rattle.std.proofs.Common.{◌≡◌, ◌≤◌, ◌∙◌, length, sym, subst}
 use Rattle.wasm_types.specs.Funcs.{unwatched}
 use Rattle.wasm_types.specs.Spaces.{body_of, globals_of}
+use Rattle.body_check.specs.declared.spaces.Spaces.{Spaces}
+use Rattle.body_check.specs.Numbered.{Describes}
 use Rattle.flow_domain.specs.Summaries.{IsKnown}
 use Rattle.slice_closure.proofs.Right.{names_same}
 use Rattle.func_flow.proofs.FlowLemmas.{value_of, own_at}
 use Rattle.func_flow.proofs.flow.flow_rows.Goals as goal
 
-pub value_names-requires-clause-imported : goal.value_names-requires-clause-imported
-value_names-requires-clause-imported c =
+pub value_names_by-requires-clause-imported : goal.value_names_by-requires-clause-imported
+value_names_by-requires-clause-imported c =
     let m = c.args.m.now in
     let body = value_of (body_of m c.args.func) c.requires.own in (own_at m c.args.func body.0 body.1).0
 
-pub value_names-requires-clause-own : goal.value_names-requires-clause-own
-value_names-requires-clause-own c =
+pub value_names_by-requires-clause-own : goal.value_names_by-requires-clause-own
+value_names_by-requires-clause-own c =
     let m = c.args.m.now in
     let body = value_of (body_of m c.args.func) c.requires.own in (own_at m c.args.func body.0 body.1).1
+
+pub value_names_by-requires-clause-spaces : goal.value_names_by-requires-clause-spaces
+value_names_by-requires-clause-spaces c =
+    subst (λ (z : Spaces). Describes z c.args.m.now) (sym c.spaces.ensures) c.requires.targets.spaces
 
 pub rows_by-requires-clause-made : goal.rows_by-requires-clause-made
 rows_by-requires-clause-made c =

@@ -20,4 +20,4 @@ returns c = λ m old new graph merged is.
     let by_func = c.args.graph.now.classes.by_func.items in
     let has = in_class (slice_get by_func c.args.func) c.in-Some.class (sym c.class_of.ensures ∙ c.in-Some.is) in
     let u = c.requires c.in-Some.class has in
-    table_grown m c.args.graph.now c.args.func c.args.rows.now old new merged c.args.self.now _ c.in-Some.class has refl u.0 u.1.0 c.merge.ensures is
+    table_grown m c.args.graph.now c.args.func c.args.rows.now old new merged c.args.self.now _ c.in-Some.class has refl refl u.0 u.1.0 c.merge.ensures is

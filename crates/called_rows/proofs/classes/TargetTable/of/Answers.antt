@@ -1,7 +1,8 @@
-use Rattle.std.proofs.Common.{rules, arith, ◌≡◌, ◌<◌, ◌≤◌, ◌^◌, ◌∙◌, length, ap, refl}
+use Rattle.std.proofs.Common.{rules, arith, ◌≡◌, ◌<◌, ◌≤◌, ◌^◌, ◌∙◌, length, ap, refl, subst}
 use Rattle.wasm_types.specs.declared.module.Module.{Module}
 use Rattle.wasm_types.specs.declared.place.LimitKind.TheVariants as limit
 use Rattle.wasm_types.specs.Spaces.{globals_of}
+use Rattle.body_check.specs.Numbered.{Describes}
 use Rattle.called_rows.proofs.classes.TargetTable.of.Goals as goal
 
 pub overflow_cast-globals : goal.overflow_cast-globals
@@ -23,4 +24,8 @@ returns c =
     let globals : c.len-globals.result ≡ length (globals_of c.args.m.now) =
     c.len-globals.ensures ∙ (c.in_ok-spaces.spaces.globals.ok.0 ∙ ap length c.in_ok-spaces.ensures.globals
     ∙ ap (λ (z : Module). length (globals_of z)) c.module.ensures.same) in
-    record { globals = globals; classes = c.in_ok-by_class.ensures }
+    record {
+      globals = globals;
+      spaces = subst (λ (z : Module). Describes c.in_ok-spaces.spaces z) c.module.ensures.same c.in_ok-spaces.ensures;
+      classes = c.in_ok-by_class.ensures;
+    }
