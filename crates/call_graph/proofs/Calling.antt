@@ -20,6 +20,7 @@ use Rattle.call_graph.specs.declared.deeds.Deed.{Deed}
 use Rattle.call_graph.specs.declared.deeds.Deed.TheVariants.{Calls, CallsThrough, Touches, Writes}
 use Rattle.call_graph.specs.Deeds.{IsDeed, Does}
 use Rattle.call_graph.specs.Deeds as deed
+use Rattle.call_graph.specs.Graph.{CallsNumber}
 
 -- ---- functions
 
@@ -75,6 +76,13 @@ through_form (CallBy u) t h = ap CallBy h
 pub does_call : (m : Module) (f g : ℕ) → Does m f (Calls g) → CallsFunc m f g
 does_call m f g (deed.by_code F op is live does) = by_number F op is live (calls_form (form_of op) g does)
 does_call m f g (deed.by_host H is does) = absurd does
+
+pub does_number : (m : Module) (f g : ℕ) → Does m f (Calls g) → CallsNumber m f g
+does_number m f g (deed.by_code F op is live does) = (F, (op, (is, (live, calls_form (form_of op) g does))))
+does_number m f g (deed.by_host H is does) = absurd does
+
+pub number_deed : (m : Module) (f g : ℕ) → CallsNumber m f g → Does m f (Calls g)
+number_deed m f g (F, (op, (is, (live, form)))) = deed.by_code F op is live (rw form refl)
 
 pub does_through : (m : Module) (f t g : ℕ) → Does m f (CallsThrough t) → Target m t g → CallsFunc m f g
 does_through m f t g (deed.by_code F op is live does) there = by_table F op t is live (through_form (form_of op) t does) there

@@ -28,13 +28,13 @@ use Rattle.call_graph.specs.Deeds.{IsDeed, HostDoes, Does}
 use Rattle.call_graph.specs.Deeds as deed
 use Rattle.call_graph.specs.Built.{AreNodes, IsEdge, IsGraphBy}
 use Rattle.call_graph.specs.Edges.{functions, edge_of, target_of, Leads}
-use Rattle.call_graph.specs.Graph.{IsCallGraph, TellsCall, TellsCaller, TellsLoc}
+use Rattle.call_graph.specs.Graph.{CallsNumber, IsCallGraph, TellsCall, TellsCaller, TellsLoc, TellsNumber}
 use Rattle.call_graph.specs.Labels.{label_of, own_at, root_at, touch_by, touch_root, write_by, write_root}
 use Rattle.call_graph.specs.Pairs.{HasPair}
 use Rattle.call_graph.specs.Tells.{AreAlike, TellsTargets}
 use Rattle.call_graph.proofs.Members.{in_map, in_picked, map_in, picked_in}
-use Rattle.call_graph.proofs.Calling.{does_below, calls_below, reached_below, does_touch, does_write, touch_does, write_does, call_touches, call_writes, touch_form, write_form}
-use Rattle.call_graph.proofs.Spreading.{edge_calls, pair_calls, call_edges, spread_sound, spread_complete}
+use Rattle.call_graph.proofs.Calling.{does_below, does_number, number_deed, calls_below, reached_below, does_touch, does_write, touch_does, write_does, call_touches, call_writes, touch_form, write_form}
+use Rattle.call_graph.proofs.Spreading.{edge_calls, number_does, number_leads, pair_calls, call_edges, spread_sound, spread_complete}
 
 -- ---- labels
 
@@ -272,6 +272,23 @@ module _ (m : Module) (classes : Classes) (same : functions classes ≡ length (
             (call_edges m classes same targets f h below c),
       )
 
+  -- the lists of callers tell calls by number
+  numbers_tell : (g : CallGraph) → g.classes ≡ classes → ((f y : ℕ) → Has g.callers.next.items y f ↔ IsEdge classes acts f y) → (h f : ℕ) → IsFunction m h
+      → TellsNumber g h f ↔ CallsNumber m f h
+  numbers_tell g is callers h f lh =
+      let below : h < functions classes = omega (arith, same, lh) in (
+        λ (lt, has).
+            let within = subst (λ (z : Classes). f < functions z) is lt in
+            does_number m f h (number_does m classes same targets f h within below ((edge_leads f h).0 ((callers f h).0 has))),
+        λ calls.
+            let does = number_deed m f h calls in
+            let lf = does_below m f (Calls h) does in
+            let within : f < functions classes = omega (arith, same, lf) in (
+              subst (λ (z : Classes). f < functions z) (sym is) within,
+              (callers f h).1 ((edge_leads f h).1 (number_leads m classes same targets f h below does)),
+            ),
+      )
+
   pub graph_tells : AreAlike m classes → (g : CallGraph) → IsGraphBy classes acts g → IsCallGraph m g
   graph_tells alike g b =
       let E : ℕ → ℕ → Type 0 = λ x y. IsEdge classes acts y x in
@@ -285,6 +302,7 @@ module _ (m : Module) (classes : Classes) (same : functions classes ≡ length (
         targets = subst (TellsTargets m) (sym b.same) targets;
         calls = calls_tell g b.same b.calls;
         callers = λ h f lh. callers_tell g turned h f (calls_tell g b.same b.calls f h lh);
+        numbers = numbers_tell g b.same b.callers;
         reached = reached_tell E edges g.reached (map own_at b.nodes) b.nodes refl b.are_nodes b.reached;
         touches = touches_tell E edges g.touches (filter_map touch_root acts) refl b.touches;
         members = subst (λ (z : Classes). (c f : ℕ) → Has g.members.items c f ↔ (slice_get z.by_func.items f ≡ Some (Some c))) (sym b.same) b.members;

@@ -34,14 +34,18 @@ module _ (m : Module) (classes : Classes) (same : functions classes ≡ length (
 
   -- ---- one call is one edge, or two through a class
 
-  pub edge_calls : (f h : ℕ) → f < functions classes → h < functions classes → Leads m classes f h → CallsFunc m f h
-  edge_calls f h lf lh (inl (Calls g, (does, is))) =
-      let e = number_there g (functions classes) h (nat_lt g (functions classes)) refl is in subst (CallsFunc m f) e.1 (does_call m f g does)
-  edge_calls f h lf lh (inl (CallsThrough t, (does, is))) =
+  -- only a call by number leads from a function to a function
+  pub number_does : (f h : ℕ) → f < functions classes → h < functions classes → Leads m classes f h → Does m f (Calls h)
+  number_does f h lf lh (inl (Calls g, (does, is))) =
+      let e = number_there g (functions classes) h (nat_lt g (functions classes)) refl is in subst (λ (k : ℕ). Does m f (Calls k)) e.1 does
+  number_does f h lf lh (inl (CallsThrough t, (does, is))) =
       let e = class_there classes (slice_get classes.by_type.items t) h is in let past = e.1.1 in absurd (omega (arith, past))
-  edge_calls f h lf lh (inl (Touches x, (does, is))) = absurd cc
-  edge_calls f h lf lh (inl (Writes x, (does, is))) = absurd cc
-  edge_calls f h lf lh (inr (c, (is, e))) = absurd (omega (arith, e))
+  number_does f h lf lh (inl (Touches x, (does, is))) = absurd cc
+  number_does f h lf lh (inl (Writes x, (does, is))) = absurd cc
+  number_does f h lf lh (inr (c, (is, e))) = absurd (omega (arith, e))
+
+  pub edge_calls : (f h : ℕ) → f < functions classes → h < functions classes → Leads m classes f h → CallsFunc m f h
+  edge_calls f h lf lh leads = does_call m f h (number_does f h lf lh leads)
 
   pub pair_calls : (f h c : ℕ) → f < functions classes → slice_get classes.by_func.items h ≡ Some (Some c) → Leads m classes f (functions classes + c)
       → CallsFunc m f h
@@ -56,7 +60,7 @@ module _ (m : Module) (classes : Classes) (same : functions classes ≡ length (
   pair_calls f h c lf member (inl (Writes x, (does, is))) = absurd cc
   pair_calls f h c lf member (inr (k, (is, e))) = absurd (omega (arith, e))
 
-  number_leads : (f g : ℕ) → g < functions classes → Does m f (Calls g) → Leads m classes f g
+  pub number_leads : (f g : ℕ) → g < functions classes → Does m f (Calls g) → Leads m classes f g
   number_leads f g lt does = inl (Calls g, (does, rw (lt-ltb g (functions classes) lt) refl))
 
   class_leads : (f t c : ℕ) → Does m f (CallsThrough t) → slice_get classes.by_type.items t ≡ Some (Some c) → Leads m classes f (functions classes + c)

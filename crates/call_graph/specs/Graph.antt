@@ -1,11 +1,14 @@
 -- What the graph of a module's calls tells, and which is the graph of a module.
 use Rattle.std.specs.Prelude.{◌≡◌, ◌↔◌, ℕ, ◌+◌, ◌<◌, ◌⊎◌, Some, length, slice_get}
 use Rattle.std.specs.List.{Contains}
+use Rattle.wasm_types.specs.declared.instr.Instr.{Instr}
 use Rattle.wasm_types.specs.declared.module.Module.{Module}
 use Rattle.wasm_types.specs.declared.place.Loc.{Loc}
+use Rattle.wasm_types.specs.Actions.{CallOf, form_of}
+use Rattle.wasm_types.specs.Funcs.{Func, func_of, text}
 use Rattle.wasm_types.specs.Hosts.{IsFunction}
 use Rattle.wasm_types.specs.Spaces.{func_types}
-use Rattle.flow_domain.specs.Reach.{CallsFunc, MayWrite, Reached}
+use Rattle.flow_domain.specs.Reach.{CallsFunc, LiveIn, MayWrite, Reached}
 use Rattle.flow_domain.specs.Touch.{MayTouch}
 use Rattle.worklist.specs.Lists.{Has}
 use Rattle.call_graph.specs.declared.pairs.Pairs.{Pairs}
@@ -25,6 +28,14 @@ abbrev pub TellsCaller : CallGraph → ℕ → ℕ → Type 0
 TellsCaller g h f = (f < functions g.classes) × (Has g.callers.next.items h f
     ⊎ ((c : ℕ) × ((slice_get g.classes.by_func.items h ≡ Some (Some c)) × Has g.callers.next.items (functions g.classes + c) f)))
 
+-- the list of callers of a function by its number has a function
+abbrev pub TellsNumber : CallGraph → ℕ → ℕ → Type 0
+TellsNumber g h f = (f < functions g.classes) × Has g.callers.next.items h f
+
+-- a function calls another by its number at a live position
+abbrev pub CallsNumber : Module → ℕ → ℕ → Type 0
+CallsNumber m f h = (F : Func) × ((op : Instr) × ((func_of m f ≡ Some F) × (LiveIn op (text F) × (form_of op ≡ CallOf h))))
+
 -- a function has the label of a location
 abbrev pub TellsLoc : Pairs → ℕ → Loc → Type 0
 TellsLoc pairs f x = (o : ℕ) × ((label_of x ≡ Some o) × HasPair pairs f o)
@@ -35,6 +46,7 @@ pub record IsCallGraph (m : Module) (g : CallGraph) : Type 0 where
   pub targets : TellsTargets m g.classes
   pub calls : (f h : ℕ) → IsFunction m h → TellsCall g f h ↔ CallsFunc m f h
   pub callers : (h f : ℕ) → IsFunction m h → TellsCaller g h f ↔ CallsFunc m f h
+  pub numbers : (h f : ℕ) → IsFunction m h → TellsNumber g h f ↔ CallsNumber m f h
   pub reached : (f h : ℕ) → IsFunction m f → IsFunction m h → HasPair g.reached f h ↔ Reached m f h
   pub touches : (f : ℕ) (x : Loc) → TellsLoc g.touches f x ↔ MayTouch m f x
   pub writes : (f : ℕ) (x : Loc) → TellsLoc g.writes f x ↔ MayWrite m f x

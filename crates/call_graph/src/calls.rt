@@ -12,7 +12,7 @@ ghost use Rattle.call_graph.specs.declared.acts.Act.{Act};
 ghost use Rattle.call_graph.specs.declared.edges.Edge.{Edge};
 ghost use Rattle.call_graph.specs.Built.{IsGraphBy};
 ghost use Rattle.call_graph.specs.Edges.{class_in};
-ghost use Rattle.call_graph.specs.Graph.{IsCallGraph, TellsCaller, TellsLoc};
+ghost use Rattle.call_graph.specs.Graph.{IsCallGraph, TellsCaller, TellsLoc, TellsNumber};
 ghost use Rattle.call_graph.specs.Pairs.{HasPair};
 ghost use Rattle.call_graph.specs.Tells.{HasClass};
 
@@ -248,6 +248,14 @@ impl CallGraph {
                 funcs.push(*other).map_err(|_| NoMemory)?;
             }
         }
+        Ok(())
+    }
+
+    /// Puts the functions that call another by its number at the end, in any order and however often. It fails only where an allocation is refused.
+    pub fn push_number_callers(&self, func: usize, funcs: &mut Vec<usize>) -> Result<(), NoMemory>
+        ensures { IfOk result (λ _. Gains (TellsNumber self.now func) funcs.old.items funcs.new.items) }
+    {
+        self.push_functions(func, funcs)?;
         Ok(())
     }
 

@@ -17,13 +17,14 @@ use Rattle.flow_domain.specs.declared.summary.Summary.{Summary}
 use Rattle.flow_domain.specs.declared.summary_table.SummaryTable.{SummaryTable}
 use Rattle.flow_domain.specs.Reach.{MayWrite}
 use Rattle.flow_domain.specs.Touch.{MayTouch}
-use Rattle.flow_domain.specs.Summaries.{IsMerged, IsShape, IsTableOf}
+use Rattle.flow_domain.specs.Rows.{Output, Target, TargetRow}
+use Rattle.flow_domain.specs.Summaries.{HasInput, IsMerged, IsShape, IsTableOf, TableRows}
 use Rattle.call_graph.specs.declared.calls.CallGraph.{CallGraph}
 use Rattle.call_graph.specs.Graph.{IsCallGraph}
 use Rattle.call_graph.specs.Tells.{HasClass}
 use Rattle.called_rows.specs.declared.classes.Targets.{Targets}
 use Rattle.called_rows.specs.declared.classes.TargetTable.{TargetTable}
-use Rattle.called_rows.specs.Classes.{AnyIn, AreTogether, FitsAt, IsTargetTable, IsGrown, IsMergedAt, TakesRows}
+use Rattle.called_rows.specs.Classes.{AnyIn, AreTogether, FitsAt, HasAll, IsTargetTable, IsGrown, IsMergedAt, TakesRows}
 use Rattle.called_rows.specs.Funcs.{AnyOf, AreShaped, MarksOf, ShareShape}
 use Rattle.called_rows.proofs.FuncLemmas.{all_from, long_pushed}
 
@@ -227,3 +228,15 @@ fits_shape all c s u (v, (at, shape)) is = subst (λ (z : Targets). IsShape z.ro
 
 pub class_within : (all : Vec Targets Global) (c : ℕ) (s : Summary) → FitsAt all.items c s → c < all.len
 class_within all c s (u, (at, shape)) = let lt = slice_get_within all.items c u at in let long = all.ok.0 in omega arith
+
+-- what a class has already, calls through the table that find a function of it have by another one
+pub had_by_targets : (m : Module) (g : CallGraph) (t : SummaryTable) (T : TargetTable) → IsCallGraph m g → IsTargetTable m g t T → (f : ℕ) (s : Summary)
+    → ((c : ℕ) → HasClass g.classes f c → HasAll T.by_class.items c s) → (k : ℕ) → Target m k f → (o : Output) (x : Loc) → HasInput s o x
+    → TargetRow m (TableRows t) k o x
+had_by_targets m g t T graph is f s has k target o x h =
+    let (c, (of_type, of_func)) = (graph.targets k f).1 target in
+    let below = g.classes.below_func f c of_func in
+    let long = is.classes.long in
+    let u = element T.by_class.items c (omega (arith, below, long)) in
+    let (other, (of_other, row)) = ((is.classes.each c u.0 u.1).rows o x).0 (has c of_func u.0 u.1 o x h) in
+    (other, (graph.targets k other).0 (c, (of_type, of_other)), row)

@@ -43,6 +43,10 @@ pub record IsTargetTable (m : Module) (g : CallGraph) (t : SummaryTable) (T : Ta
 abbrev pub FitsAt : List Targets → ℕ → Summary → Type 0
 FitsAt all c s = (u : Targets) × ((slice_get all c ≡ Some u) × IsShape u.rows.globals u.rows.params s)
 
+-- the class has all these rows
+abbrev pub HasAll : List Targets → ℕ → Summary → Type 0
+HasAll all c s = (u : Targets) → slice_get all c ≡ Some u → (o : Output) (x : Loc) → HasInput s o x → HasInput u.rows o x
+
 -- rows of a function are taken where it has a class
 abbrev pub TakesRows : CallGraph → TargetTable → ℕ → Summary → Type 0
 TakesRows g T f s = (c : ℕ) → HasClass g.classes f c → FitsAt T.by_class.items c s

@@ -1,12 +1,13 @@
 //! What the functions do, taken together, that a call through the table may find.
 
-ghost use Rattle.std.specs.Prelude.{◌≡◌, ◌++◌, ◌∷◌, [], IfOk, length, slice_get};
+ghost use Rattle.std.specs.Prelude.{◌≡◌, ◌++◌, ◌∷◌, [], ℕ, IfOk, false, length, slice_get};
 ghost use Rattle.std.specs.Option.{option_copied};
 ghost use Rattle.wasm_types.specs.declared.module.Module.{Module};
 ghost use Rattle.wasm_types.specs.Spaces.{globals_of};
 ghost use Rattle.flow_domain.specs.declared.summary_table.SummaryTable.{SummaryTable};
 ghost use Rattle.flow_domain.specs.Summaries.{IsMerged, IsTableOf};
 ghost use Rattle.call_graph.specs.Graph.{IsCallGraph};
+ghost use Rattle.call_graph.specs.Tells.{HasClass};
 ghost use Rattle.called_rows.specs.Classes as spec;
 
 use crate::funcs::{Effect, marks_of, params_of, rows_of};
@@ -86,12 +87,13 @@ fn all_targets(
     Ok(all)
 }
 
-/// Adds rows to those of a class.
-fn merge(by_class: &mut Vec<Targets>, class: usize, rows: &Summary)
+/// Adds rows to those of a class: true where something was new.
+fn merge(by_class: &mut Vec<Targets>, class: usize, rows: &Summary) -> bool
     requires { spec.FitsAt by_class.old.items class rows.now }
-    ensures { spec.IsMergedAt class rows.now by_class.old.items by_class.new.items }
+    ensures merged { spec.IsMergedAt class rows.now by_class.old.items by_class.new.items }
+    ensures same { result ≡ false → spec.HasAll by_class.old.items class rows.now }
 {
-    by_class[class].rows.merge(rows);
+    by_class[class].rows.merge(rows)
 }
 
 impl TargetTable {
@@ -116,16 +118,17 @@ impl TargetTable {
         })
     }
 
-    /// Adds the rows that are added to those of a function.
-    pub fn add(&mut self, graph: &CallGraph, func: u32, rows: &Summary)
+    /// Adds the rows that are added to those of a function: true where something was new to its class.
+    pub fn add(&mut self, graph: &CallGraph, func: u32, rows: &Summary) -> bool
         requires { spec.TakesRows graph.now self.old func rows.now }
-        ensures { (m : Module) (old new : SummaryTable) → IsCallGraph m graph.now → IsMerged func rows.now old new →
+        ensures added { (m : Module) (old new : SummaryTable) → IsCallGraph m graph.now → IsMerged func rows.now old new →
             spec.IsTargetTable m graph.now old self.old → spec.IsTargetTable m graph.now new self.new }
+        ensures same { result ≡ false → (c : ℕ) → HasClass graph.now.classes func c → spec.HasAll self.old.by_class.items c rows.now }
     {
         let Some(class) = graph.class_of(func as usize) else {
-            return;
+            return false;
         };
-        merge(&mut self.by_class, class, rows);
+        merge(&mut self.by_class, class, rows)
     }
 
     /// What the module names by number.

@@ -15,6 +15,7 @@ use Rattle.wasm_types.specs.Funcs.{Func, func_of, text}
 use Rattle.flow_domain.specs.Bounds.{Bounds, called}
 use Rattle.flow_domain.specs.Reach.{LiveIn, CallsFunc, by_number, by_table}
 use Rattle.flow_domain.specs.Rows.{Target, func_sites}
+use Rattle.call_graph.specs.Graph.{CallsNumber}
 
 -- ---- sites
 
@@ -132,6 +133,21 @@ module _ (m : Module) (f : ℕ) (F : Func) (is : func_of m f ≡ Some F) (op : I
 pub live_calls : (B : Bounds) (f : ℕ) (F : Func) (op : Instr) (g : Callee) → func_of B.m f ≡ Some F → LiveIn op (text F) → called B op ≡ Some g → (h : ℕ)
     → IsCalled B.m g h → CallsFunc B.m f h
 live_calls B f F op g is live called h callee = by_form B.m f F is op live (form_of op) refl g (form_calls B.m (form_of op) g called) h callee
+
+number_form : (form : Form) (h : ℕ) → FormCalls form (Own h) → form ≡ CallOf h
+number_form (CallOf k) h same = ap CallOf same
+number_form NoForm h same = absurd same
+number_form (Plain a) h same = absurd same
+number_form (CallBy t) h same = absurd same
+
+-- by its number, where they call a function
+pub live_number : (B : Bounds) (f : ℕ) (F : Func) (op : Instr) (h : ℕ) → func_of B.m f ≡ Some F → LiveIn op (text F) → called B op ≡ Some (Own h)
+    → CallsNumber B.m f h
+live_number B f F op h is live called = (F, (op, (is, (live, number_form (form_of op) h (form_calls B.m (form_of op) (Own h) called)))))
+
+-- calls by number are calls
+pub number_calls : (m : Module) (f h : ℕ) → CallsNumber m f h → CallsFunc m f h
+number_calls m f h (F, (op, (is, (live, form)))) = by_number F op is live form
 
 -- and whom its sites call
 pub site_calls : (B : Bounds) (f : ℕ) (F : Func) (p : ℕ) (s : Site) (op : Instr) (g : Callee) → func_of B.m f ≡ Some F → IsSite (func_sites B F) p s

@@ -1,6 +1,6 @@
 -- Marks of functions whose rows may have to be made anew.
 use Rattle.std.proofs.Common.{◌≡◌, ◌≢◌, ℕ, zero, suc, replicate, ◌+◌, ◌<◌, ◌≤◌, ◌⊎◌, inl, inr, ⊎_elim, List, Bool, true, false, cond, if◌then◌else◌}
-use Rattle.std.proofs.Common.{length, get_or, set, take, refl, sym, ap, ◌∙◌, subst, arith, get_or-set_other}
+use Rattle.std.proofs.Common.{not, length, get_or, set, take, refl, sym, ap, ◌∙◌, subst, arith, get_or-set_other}
 use Rattle.std.specs.List.{Contains}
 use Rattle.std.proofs.lemmas.Bool.{cases_eq}
 use Rattle.std.proofs.lemmas.List.{take_more}
@@ -8,18 +8,18 @@ use Rattle.std.proofs.lemmas.List.Elements.{Contains-push_cases}
 use Rattle.wasm_types.specs.declared.module.Module.{Module}
 use Rattle.wasm_types.specs.Spaces.{func_types}
 use Rattle.worklist.specs.Search.{IsMarked}
-use Rattle.flow_domain.specs.Reach.{CallsFunc}
 use Rattle.flow_domain.specs.declared.summary_table.SummaryTable.{SummaryTable}
-use Rattle.summary_fix.specs.Settled.{IsFull, IsSettled}
+use Rattle.summary_fix.specs.declared.rounds.Growth.{Growth}
+use Rattle.summary_fix.specs.Settled.{IsApart, IsFull, IsSettled}
 
 off_on : {A : Type 0} (b : Bool) → b ≡ false → b ≡ true → A
 off_on b off on = absurd cc
 
-pub settled_after : (m : Module) (t u : SummaryTable) (wanted marks after : List Bool) (func : ℕ) → IsSettled m t wanted marks
-    → length u.rows.items ≡ length t.rows.items → length after ≡ length u.rows.items → IsFull m u func → ((f : ℕ) → IsFull m t f → (CallsFunc m f func → ⊥) → IsFull m u f)
-    → ((f : ℕ) → IsMarked (set marks func false) f → IsMarked after f) → ((f : ℕ) → CallsFunc m f func → IsMarked wanted f → IsMarked after f)
-    → IsSettled m u wanted after
-settled_after m t u wanted marks after func settled same long full others kept callers = record {
+pub settled_after : (m : Module) (t u : SummaryTable) (wanted marks after : List Bool) (func : ℕ) (grew : Growth) → IsSettled m t wanted marks
+    → length u.rows.items ≡ length t.rows.items → length after ≡ length u.rows.items → IsFull m u func
+    → ((f : ℕ) → IsFull m t f → IsApart m grew f func → IsFull m u f) → ((f : ℕ) → IsMarked (set marks func false) f → IsMarked after f)
+    → ((f : ℕ) → IsMarked wanted f → (IsMarked after f → ⊥) → IsApart m grew f func) → IsSettled m u wanted after
+settled_after m t u wanted marks after func grew settled same long full others kept apart = record {
   long = long;
   wanted_long = settled.wanted_long ∙ sym same;
   either = λ f fn want. by f want (settled.either f fn want) (get_or after f false) refl;
@@ -27,11 +27,19 @@ settled_after m t u wanted marks after func settled same long full others kept c
   where
     by : (f : ℕ) → IsMarked wanted f → IsFull m t f ⊎ IsMarked marks f → (b : Bool) → get_or after f false ≡ b → IsFull m u f ⊎ IsMarked after f
     by f want old true on = inr on
-    by f want (inl was) false off = inl (others f was (λ calls. off_on (get_or after f false) off (callers f calls want)))
+    by f want (inl was) false off = inl (others f was (apart f want (off_on (get_or after f false) off)))
     by f want (inr marked) false off = elim (cases_eq f func) [
       | inl e ↦ inl (subst (IsFull m u) (sym e) full)
       | inr ne ↦ off_on (get_or after f false) off (kept f (get_or-set_other marks func f false false ne ∙ marked))
     ]
+
+pub not_on : (b : Bool) → not b ≡ true → b ≡ false
+not_on true e = absurd cc
+not_on false e = refl
+
+-- where nothing grew, every function is apart
+pub nothing_apart : (m : Module) (grew : Growth) (f func : ℕ) → grew.rows ≡ false → (grew.class ≡ true → grew.rows ≡ true) → IsApart m grew f func
+nothing_apart m grew f func off within = (off_on grew.rows off, λ on. off_on grew.rows off (within on))
 
 -- none of the first so many is marked: one more
 pub none_marked : (order : List ℕ) (i : ℕ) (lt : i < length order) (old new : List Bool) → ((f : ℕ) → Contains (take i order) f → IsMarked old f → ⊥)

@@ -5,32 +5,36 @@ use Rattle.std.proofs.lemmas.Option.{slice_get_within, slice_get-get_or}
 use Rattle.wasm_types.specs.declared.module.FuncType.{FuncType}
 use Rattle.wasm_types.specs.declared.module.Module.{Module}
 use Rattle.wasm_types.specs.declared.place.Loc.{Loc}
+use Rattle.wasm_types.specs.declared.instr.Instr.{Instr}
 use Rattle.wasm_types.specs.Actions.{Callee, Own, Through}
+use Rattle.wasm_types.specs.Funcs.{Func, func_of, text}
 use Rattle.wasm_types.specs.Hosts.{IsFunction}
 use Rattle.wasm_types.specs.Nodes.{At}
 use Rattle.wasm_types.specs.Spaces.{func_types, func_import, imported, globals_of, import_count, type_of_func, body_of}
 use Rattle.wasm_types.specs.Subset.{HasNoFloat}
 use Rattle.wasm_types.specs.Validity.{IsValid}
-use Rattle.flow_domain.specs.Bounds.{Cover, Bounds, bounds}
+use Rattle.flow_domain.specs.Bounds.{Cover, Bounds, bounds, called}
 use Rattle.worklist.specs.Search.{IsMarked}
-use Rattle.flow_domain.specs.Reach.{CallsFunc, Reached, itself, after_call}
-use Rattle.flow_domain.specs.Rows.{Output, Rows, RowOf, Makes, LedTo, by_code, by_host, Dep, AnyRound, ImportRows, func_sites}
+use Rattle.flow_domain.specs.Reach.{CallsFunc, LiveIn, Reached, itself, after_call}
+use Rattle.flow_domain.specs.Rows.{Output, Rows, RowOf, Makes, LedTo, by_code, by_host, Dep, AnyRound, ImportRows, Target, TargetRow, func_sites}
 use Rattle.flow_domain.specs.Summaries.{IsSet, row_number, column_number, HasInput, IsKnown, IsMerged, IsShape, IsTableOf, TableRows}
 use Rattle.flow_domain.specs.Touch.{IsExact}
 use Rattle.flow_domain.specs.declared.summary.Summary.{Summary}
 use Rattle.flow_domain.specs.declared.summary_table.SummaryTable.{SummaryTable}
+use Rattle.call_graph.specs.Graph.{CallsNumber}
 use Rattle.call_graph.proofs.Calling.{calls_below}
 use Rattle.flow_laws.proofs.Sound.{any_round_holds}
-use Rattle.summary_fix.specs.Settled.{IsClosed, IsSound, IsFull}
+use Rattle.summary_fix.specs.declared.rounds.Growth.{Growth}
+use Rattle.summary_fix.specs.Settled.{IsApart, IsClosed, IsSound, IsFull}
 use Rattle.summary_fix.specs.TwoRuns.{CallsLead, IsLeastFrom, IsLeastTable}
 use Rattle.summary_fix.proofs.Between.{led_asks, ledto_between}
-use Rattle.summary_fix.proofs.LiveSites.{IsCalled, site_calls}
+use Rattle.summary_fix.proofs.LiveSites.{IsCalled, live_calls, live_number, site_calls, site_live}
 use Rattle.summary_fix.proofs.Known.{asked_known}
 use Rattle.summary_fix.proofs.Owned.{value_of, body_at, own_typed, parts, host_parts}
 
-pub apart_of : (grew : Bool) {A B : Type 0} → (grew ≡ true → A) → (grew ≡ false → B) → A ⊎ B
-apart_of true f g = inl (f refl)
-apart_of false f g = inr (g refl)
+either : (b : Bool) → (b ≡ true) ⊎ (b ≡ false)
+either true = inl refl
+either false = inr refl
 
 set_known : (words : ℕ) (bits : List ℕ) (row column : Option ℕ) → IsSet words bits row column → IsSome row
 set_known words bits (Some r) c h = refl
@@ -62,14 +66,13 @@ round_sound B R within f o x led =
     (ledto_between B R (AnyRound B) f o x (λ F is p s op g out y site head called asked row. callee_more B.m R (AnyRound B) out y (λ h r. within h out y r) g row)
     led)
 
--- what is led to stays so where the rows of the functions called do
-pub local : (B : Bounds) (R Q : Rows) (f : ℕ) → ((h : ℕ) → CallsFunc B.m f h → (out : Output) (y : Loc) → R h out y → Q h out y) → (o : Output) (x : Loc)
-    → LedTo R B f o x → LedTo Q B f o x
+-- what is led to stays so where what its live calls ask for does
+pub local : (B : Bounds) (R Q : Rows) (f : ℕ)
+    → ((F : Func) (op : Instr) (g : Callee) → func_of B.m f ≡ Some F → LiveIn op (text F) → called B op ≡ Some g → (out : Output) (y : Loc) → RowOf B.m R g out y
+    → RowOf B.m Q g out y)
+    → (o : Output) (x : Loc) → LedTo R B f o x → LedTo Q B f o x
 local B R Q f more o x led =
-    ledto_between B R Q f o x
-    (λ F is p s op g out y site head called asked row.
-    callee_more_of B.m R Q out y g (λ h callee r. more h (site_calls B f F p s op g is site head called h callee) out y r) row)
-    led
+    ledto_between B R Q f o x (λ F is p s op g out y site head called asked row. more F op g is (site_live B F p s op site head) called out y row) led
 
 -- ---- one function's rows are added to
 
@@ -83,30 +86,52 @@ module _ (m : Module) (t u : SummaryTable) (func : ℕ) (s : Summary) (merged : 
       (round_sound (bounds m W) (TableRows t) (sound.rounds W exact) func o x (made W exact o x h)))
       ((merged.rows f o x).0 row)
 
-  back : (f : ℕ) → ((CallsFunc m f func → ⊥) ⊎ ((o : Output) (x : Loc) → HasInput s o x → TableRows t func o x)) → (h : ℕ) → CallsFunc m f h
-      → (out : Output) (y : Loc) → TableRows u h out y → TableRows t h out y
-  back f apart h calls out y row = ⊎_elim
-      (λ old. old)
-      (λ (e, k). ⊎_elim
-      (λ no. absurd (no (subst (CallsFunc m f) e calls)))
-      (λ had. subst (λ n. TableRows t n out y) (sym e) (had out y k))
-      apart)
-      ((merged.rows h out y).0 row)
+  module _ (grew : Growth) (same : grew.rows ≡ false → (o : Output) (x : Loc) → HasInput s o x → TableRows t func o x)
+      (had : grew.rows ≡ true → grew.class ≡ false → (k : ℕ) → Target m k func → (o : Output) (x : Loc) → HasInput s o x → TargetRow m (TableRows t) k o x) where
+    number_back : (f h : ℕ) → IsApart m grew f func → CallsNumber m f h → (out : Output) (y : Loc) → TableRows u h out y → TableRows t h out y
+    number_back f h apart calls out y row = ⊎_elim
+        (λ old. old)
+        (λ (e, has). ⊎_elim
+        (λ on. absurd (apart.0 on (subst (CallsNumber m f) e calls)))
+        (λ off. subst (λ n. TableRows t n out y) (sym e) (same off out y has))
+        (either grew.rows))
+        ((merged.rows h out y).0 row)
 
-  -- full functions that don't call it stay full, and all do where nothing is new
-  pub full_more : (f : ℕ) → IsFull m t f → ((CallsFunc m f func → ⊥) ⊎ ((o : Output) (x : Loc) → HasInput s o x → TableRows t func o x)) → IsFull m u f
-  full_more f full apart = record {
-    has = λ W exact o x known led.
-        (merged.rows f o x).1 (inl (full.has W exact o x known (local (bounds m W) (TableRows u) (TableRows t) f (back f apart) o x led)));
-  }
+    through_back : (f k h : ℕ) → IsApart m grew f func → CallsFunc m f h → Target m k h → (out : Output) (y : Loc) → TableRows u h out y
+        → TargetRow m (TableRows t) k out y
+    through_back f k h apart calls target out y row = ⊎_elim
+        (λ old. (h, target, old))
+        (λ (e, has). ⊎_elim
+        (λ on. ⊎_elim
+        (λ wide. absurd (apart.1 wide (subst (CallsFunc m f) e calls)))
+        (λ narrow. had on narrow k (subst (Target m k) e target) out y has)
+        (either grew.class))
+        (λ off. (h, target, subst (λ n. TableRows t n out y) (sym e) (same off out y has)))
+        (either grew.rows))
+        ((merged.rows h out y).0 row)
 
-  -- the function itself is full where it has all that was led to, unless it calls itself and something is new
-  pub full_made : ((W : Cover) → IsExact m W → (o : Output) (x : Loc) → IsKnown (length (globals_of m)) o → LedTo (TableRows t) (bounds m W) func o x → HasInput s o x)
-      → ((CallsFunc m func func → ⊥) ⊎ ((o : Output) (x : Loc) → HasInput s o x → TableRows t func o x)) → IsFull m u func
-  full_made made apart = record {
-    has = λ W exact o x known led.
-        (merged.rows func o x).1 (inr (refl, made W exact o x known (local (bounds m W) (TableRows u) (TableRows t) func (back func apart) o x led)));
-  }
+    -- what a live call of a function that stands apart asks for was there before
+    back : (W : Cover) (f : ℕ) → IsApart m grew f func → (F : Func) (op : Instr) (g : Callee) → func_of m f ≡ Some F → LiveIn op (text F)
+        → called (bounds m W) op ≡ Some g → (out : Output) (y : Loc) → RowOf m (TableRows u) g out y → RowOf m (TableRows t) g out y
+    back W f apart F op (Own h) is live calls out y row = number_back f h apart (live_number (bounds m W) f F op h is live calls) out y row
+    back W f apart F op (Through k n) is live calls out y (inl i) = inl i
+    back W f apart F op (Through k n) is live calls out y (inr (h, target, row)) =
+        inr (through_back f k h apart (live_calls (bounds m W) f F op (Through k n) is live calls h target) target out y row)
+
+    -- full functions that stand apart stay full
+    pub full_more : (f : ℕ) → IsFull m t f → IsApart m grew f func → IsFull m u f
+    full_more f full apart = record {
+      has = λ W exact o x known led.
+          (merged.rows f o x).1 (inl (full.has W exact o x known (local (bounds m W) (TableRows u) (TableRows t) f (back W f apart) o x led)));
+    }
+
+    -- the function itself is full where it has all that was led to, unless it calls itself and something is new
+    pub full_made : ((W : Cover) → IsExact m W → (o : Output) (x : Loc) → IsKnown (length (globals_of m)) o → LedTo (TableRows t) (bounds m W) func o x → HasInput s o x)
+        → IsApart m grew func func → IsFull m u func
+    full_made made apart = record {
+      has = λ W exact o x known led.
+          (merged.rows func o x).1 (inr (refl, made W exact o x known (local (bounds m W) (TableRows u) (TableRows t) func (back W func apart) o x led)));
+    }
 
   table_more : IsTableOf m t → import_count m ≤ func → IsTableOf m u
   table_more is own = record {

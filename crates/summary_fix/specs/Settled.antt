@@ -1,5 +1,5 @@
 -- What holds of the table while rows are added, and when a function's rows are all there.
-use Rattle.std.specs.Prelude.{◌≡◌, ℕ, ◌⊎◌, List, Bool, length}
+use Rattle.std.specs.Prelude.{◌≡◌, ℕ, ◌⊎◌, List, Bool, length, true}
 use Rattle.wasm_types.specs.declared.module.Module.{Module}
 use Rattle.wasm_types.specs.declared.place.Loc.{Loc}
 use Rattle.wasm_types.specs.Hosts.{IsFunction}
@@ -12,6 +12,8 @@ use Rattle.flow_domain.specs.Rows.{Output, AnyRound, LedTo}
 use Rattle.flow_domain.specs.Summaries.{IsKnown, IsTableOf, TableRows}
 use Rattle.flow_domain.specs.Touch.{IsExact}
 use Rattle.flow_domain.specs.declared.summary_table.SummaryTable.{SummaryTable}
+use Rattle.call_graph.specs.Graph.{CallsNumber}
+use Rattle.summary_fix.specs.declared.rounds.Growth.{Growth}
 use Rattle.summary_fix.specs.TwoRuns.{IsLeastTable, TableAgrees, TableReturns}
 
 -- it is a table of a module that is answered, and all its rows are rows of a round
@@ -23,6 +25,10 @@ pub record IsSound (m : Module) (t : SummaryTable) : Type 0 where
 -- one more round adds nothing to the rows of function f
 pub record IsFull (m : Module) (t : SummaryTable) (f : ℕ) : Type 0 where
   pub has : (W : Cover) → IsExact m W → (o : Output) (x : Loc) → IsKnown (length (globals_of m)) o → LedTo (TableRows t) (bounds m W) f o x → TableRows t f o x
+
+-- a function doesn't call another by its number if that got rows, and doesn't call it at all if its class did
+abbrev pub IsApart : Module → Growth → ℕ → ℕ → Type 0
+IsApart m grew f func = (grew.rows ≡ true → CallsNumber m f func → ⊥) × (grew.class ≡ true → CallsFunc m f func → ⊥)
 
 -- wanted functions that may not be full are marked
 pub record IsSettled (m : Module) (t : SummaryTable) (wanted marks : List Bool) : Type 0 where

@@ -1,15 +1,15 @@
 //! Rounds of rows: the rows of functions are made anew until none is added.
 
-ghost use Rattle.std.specs.Prelude.{◌≡◌, ◌≢◌, ℕ, ◌+◌, ◌^◌, ◌<◌, ◌≤◌, ◌↔◌, ◌⊎◌, IfOk, IsSome, IsTrue, false, if◌then◌else◌, length, vec_len};
+ghost use Rattle.std.specs.Prelude.{◌≡◌, ◌≢◌, ℕ, ◌+◌, ◌^◌, ◌<◌, ◌≤◌, ◌↔◌, ◌⊎◌, IfOk, IsSome, IsTrue, false, if◌then◌else◌, length, true, vec_len};
 ghost use Rattle.std.specs.List.{All, Contains};
 ghost use Rattle.wasm_types.specs.Hosts.{IsFunction};
 ghost use Rattle.wasm_types.specs.Spaces.{body_of};
 ghost use Rattle.worklist.specs.Search.{IsMarked};
 ghost use Rattle.flow_domain.specs.Reach.{CallsFunc};
 ghost use Rattle.flow_domain.specs.Summaries.{table_room};
-ghost use Rattle.call_graph.specs.Graph.{IsCallGraph, TellsCaller};
+ghost use Rattle.call_graph.specs.Graph.{CallsNumber, IsCallGraph};
 ghost use Rattle.called_rows.specs.Classes.{IsTargetTable};
-ghost use Rattle.summary_fix.specs.Settled.{IsFull, IsSettled, IsSound};
+ghost use Rattle.summary_fix.specs.Settled.{IsApart, IsFull, IsSettled, IsSound};
 
 use call_graph::CallGraph;
 use called_rows::TargetTable;
@@ -18,7 +18,32 @@ use func_flow::flow_rows;
 use std::alloc::Global;
 use wasm_types::{NoMemory, ValidModule};
 
-/// Adds the rows that those of a function lead to, by one round; true where some are new.
+/// Whether a function got new rows, and whether some of them are new to its class.
+#[derive(Clone, Copy)]
+struct Growth {
+    rows: bool,
+    class: bool,
+}
+
+/// That of a function with new rows or none, some of which its class did not have.
+fn growth_of(rows: bool, wide: bool) -> Growth
+    ensures rows { result.rows ≡ rows }
+    ensures within { IsTrue result.class → IsTrue result.rows }
+    ensures wide { result.rows ≡ true → result.class ≡ false → wide ≡ false }
+{
+    Growth {
+        rows,
+        class: rows && wide,
+    }
+}
+
+fn any(one: bool, other: bool) -> bool
+    ensures { IsTrue result ↔ (IsTrue one ⊎ IsTrue other) }
+{
+    one || other
+}
+
+/// Adds the rows that those of a function lead to, by one round.
 fn add_rows(
     alloc: Global,
     m: &ValidModule,
@@ -26,24 +51,25 @@ fn add_rows(
     table: &mut SummaryTable,
     targets: &mut TargetTable,
     func: u32,
-) -> Result<bool, NoMemory>
+) -> Result<Growth, NoMemory>
     requires graph { IsCallGraph m.now graph.now }
     requires body { IsSome (body_of m.now func) }
     requires sound { IsSound m.now table.old }
     requires targets { IsTargetTable m.now graph.now table.old targets.old }
     ensures sound { IfOk result (λ _. IsSound m.now table.new) }
     ensures targets { IfOk result (λ _. IsTargetTable m.now graph.now table.new targets.new) }
-    ensures full { IfOk result (λ grew. (IsTrue grew → CallsFunc m.now func func → ⊥) → IsFull m.now table.new func) }
-    ensures others { IfOk result (λ grew. (f : ℕ) → IsFull m.now table.old f → (IsTrue grew → CallsFunc m.now f func → ⊥) → IsFull m.now table.new f) }
-    ensures room { IfOk result (λ grew. table_room table.new + (if grew then 1 else 0) ≤ table_room table.old) }
+    ensures full { IfOk result (λ grew. IsApart m.now grew func func → IsFull m.now table.new func) }
+    ensures others { IfOk result (λ grew. (f : ℕ) → IsFull m.now table.old f → IsApart m.now grew f func → IsFull m.now table.new f) }
+    ensures room { IfOk result (λ grew. table_room table.new + (if grew.rows then 1 else 0) ≤ table_room table.old) }
+    ensures within { IfOk result (λ grew. IsTrue grew.class → IsTrue grew.rows) }
 {
     let rows = flow_rows(alloc, m, func, graph, table, targets)?;
-    targets.add(graph, func, &rows);
+    let wide = targets.add(graph, func, &rows);
     let grew = table.merge(func, &rows);
-    Ok(grew)
+    Ok(growth_of(grew, wide))
 }
 
-/// Adds rows of a function by one round after another, until none is new.
+/// Adds rows of a function by one round after another, until none is new; true where some are new to its class.
 fn add_all(
     alloc: Global,
     m: &ValidModule,
@@ -51,7 +77,7 @@ fn add_all(
     table: &mut SummaryTable,
     targets: &mut TargetTable,
     func: u32,
-) -> Result<(), NoMemory>
+) -> Result<bool, NoMemory>
     requires graph { IsCallGraph m.now graph.now }
     requires body { IsSome (body_of m.now func) }
     requires sound { IsSound m.now table.old }
@@ -59,18 +85,21 @@ fn add_all(
     ensures sound { IfOk result (λ _. IsSound m.now table.new) }
     ensures targets { IfOk result (λ _. IsTargetTable m.now graph.now table.new targets.new) }
     ensures full { IfOk result (λ _. IsFull m.now table.new func) }
-    ensures others { IfOk result (λ _. (f : ℕ) → IsFull m.now table.old f → (CallsFunc m.now f func → ⊥) → IsFull m.now table.new f) }
+    ensures others { IfOk result (λ wide. (f : ℕ) → IsFull m.now table.old f → (CallsNumber m.now f func → ⊥) → (IsTrue wide → CallsFunc m.now f func → ⊥)
+        → IsFull m.now table.new f) }
     ensures room { IfOk result (λ _. table_room table.new ≤ table_room table.old) }
 {
+    let mut wide = false;
     loop {
         let grew = add_rows(alloc, m, graph, table, targets, func)?;
-        if !grew {
-            return Ok(());
+        if !grew.rows {
+            return Ok(wide);
         }
+        wide = any(wide, grew.class);
     }
 }
 
-/// Adds rows of an own function until one more round adds none; true where some are new.
+/// Adds rows of an own function until one more round adds none.
 fn fill_own(
     alloc: Global,
     m: &ValidModule,
@@ -78,7 +107,7 @@ fn fill_own(
     table: &mut SummaryTable,
     targets: &mut TargetTable,
     func: u32,
-) -> Result<bool, NoMemory>
+) -> Result<Growth, NoMemory>
     requires graph { IsCallGraph m.now graph.now }
     requires func { IsFunction m.now func }
     requires body { IsSome (body_of m.now func) }
@@ -87,17 +116,25 @@ fn fill_own(
     ensures sound { IfOk result (λ _. IsSound m.now table.new) }
     ensures targets { IfOk result (λ _. IsTargetTable m.now graph.now table.new targets.new) }
     ensures full { IfOk result (λ _. IsFull m.now table.new func) }
-    ensures others { IfOk result (λ grew. (f : ℕ) → IsFull m.now table.old f → (IsTrue grew → CallsFunc m.now f func → ⊥) → IsFull m.now table.new f) }
-    ensures room { IfOk result (λ grew. table_room table.new + (if grew then 1 else 0) ≤ table_room table.old) }
+    ensures others { IfOk result (λ grew. (f : ℕ) → IsFull m.now table.old f → IsApart m.now grew f func → IsFull m.now table.new f) }
+    ensures room { IfOk result (λ grew. table_room table.new + (if grew.rows then 1 else 0) ≤ table_room table.old) }
+    ensures within { IfOk result (λ grew. IsTrue grew.class → IsTrue grew.rows) }
 {
     let grew = add_rows(alloc, m, graph, table, targets, func)?;
-    if grew && graph.calls(func, func) {
-        add_all(alloc, m, graph, table, targets, func)?;
+    if !grew.rows {
+        return Ok(grew);
     }
-    Ok(grew)
+    if !graph.calls(func, func) {
+        return Ok(grew);
+    }
+    let wide = add_all(alloc, m, graph, table, targets, func)?;
+    Ok(Growth {
+        rows: true,
+        class: any(grew.class, wide),
+    })
 }
 
-/// Adds rows of a function until one more round adds none; true where some are new.
+/// Adds rows of a function until one more round adds none.
 fn fill(
     alloc: Global,
     m: &ValidModule,
@@ -105,7 +142,7 @@ fn fill(
     table: &mut SummaryTable,
     targets: &mut TargetTable,
     func: u32,
-) -> Result<bool, NoMemory>
+) -> Result<Growth, NoMemory>
     requires graph { IsCallGraph m.now graph.now }
     requires func { IsFunction m.now func }
     requires sound { IsSound m.now table.old }
@@ -113,15 +150,19 @@ fn fill(
     ensures sound { IfOk result (λ _. IsSound m.now table.new) }
     ensures targets { IfOk result (λ _. IsTargetTable m.now graph.now table.new targets.new) }
     ensures full { IfOk result (λ _. IsFull m.now table.new func) }
-    ensures others { IfOk result (λ grew. (f : ℕ) → IsFull m.now table.old f → (IsTrue grew → CallsFunc m.now f func → ⊥) → IsFull m.now table.new f) }
-    ensures room { IfOk result (λ grew. table_room table.new + (if grew then 1 else 0) ≤ table_room table.old) }
+    ensures others { IfOk result (λ grew. (f : ℕ) → IsFull m.now table.old f → IsApart m.now grew f func → IsFull m.now table.new f) }
+    ensures room { IfOk result (λ grew. table_room table.new + (if grew.rows then 1 else 0) ≤ table_room table.old) }
+    ensures within { IfOk result (λ grew. IsTrue grew.class → IsTrue grew.rows) }
 {
     match m.module().body(func) {
         Some(_) => {
             let grew = fill_own(alloc, m, graph, table, targets, func)?;
             Ok(grew)
         }
-        None => Ok(false),
+        None => Ok(Growth {
+            rows: false,
+            class: false,
+        }),
     }
 }
 
@@ -149,7 +190,30 @@ fn mark_each(marks: &mut [bool], wanted: &[bool], funcs: &[usize])
     }
 }
 
-/// Marks the wanted functions that call another.
+/// The functions that call another: those by its number, or all.
+fn callers_of(
+    alloc: Global,
+    m: &ValidModule,
+    graph: &CallGraph,
+    func: usize,
+    all: bool,
+) -> Result<Vec<usize>, NoMemory>
+    requires graph { IsCallGraph m.now graph.now }
+    requires func { IsFunction m.now func }
+    ensures within { IfOk result (λ callers. All (λ f. IsFunction m.now f) callers.items) }
+    ensures numbers { IfOk result (λ callers. (f : ℕ) → CallsNumber m.now f func → Contains callers.items f) }
+    ensures every { IfOk result (λ callers. IsTrue all → (f : ℕ) → CallsFunc m.now f func → Contains callers.items f) }
+{
+    let mut callers = Vec::new(alloc);
+    if all {
+        graph.push_callers(func, &mut callers)?;
+        return Ok(callers);
+    }
+    graph.push_number_callers(func, &mut callers)?;
+    Ok(callers)
+}
+
+/// Marks the wanted functions that call another: those by its number, or all.
 fn mark_callers(
     alloc: Global,
     m: &ValidModule,
@@ -157,21 +221,23 @@ fn mark_callers(
     wanted: &[bool],
     marks: &mut [bool],
     func: usize,
+    all: bool,
 ) -> Result<(), NoMemory>
     requires graph { IsCallGraph m.now graph.now }
     requires func { IsFunction m.now func }
     requires length { (f : ℕ) → IsFunction m.now f → f < length marks.old }
     requires wanted { length wanted.now ≡ length marks.old }
     ensures kept { (f : ℕ) → IsMarked marks.old f → IsMarked marks.new f }
-    ensures all { IfOk result (λ _. (f : ℕ) → CallsFunc m.now f func → IsMarked wanted.now f → IsMarked marks.new f) }
+    ensures numbers { IfOk result (λ _. (f : ℕ) → CallsNumber m.now f func → IsMarked wanted.now f → IsMarked marks.new f) }
+    ensures every { IfOk result (λ _. IsTrue all → (f : ℕ) → CallsFunc m.now f func → IsMarked wanted.now f → IsMarked marks.new f) }
 {
-    let mut callers = Vec::new(alloc);
-    graph.push_callers(func, &mut callers)?;
+    let callers = callers_of(alloc, m, graph, func, all)?;
     mark_each(marks, wanted, &callers);
     Ok(())
 }
 
-/// Adds rows of a function until one more round adds none, and marks its wanted callers where some are new; true where they are.
+/// Adds rows of a function until one more round adds none, and marks its wanted callers where some are new: those through the table only where they are new to
+/// its class, since such calls have the rows of the class. True where some are new.
 fn refresh(
     alloc: Global,
     m: &ValidModule,
@@ -195,10 +261,10 @@ fn refresh(
 {
     marks[func] = false;
     let grew = fill(alloc, m, graph, table, targets, func as u32)?;
-    if grew {
-        mark_callers(alloc, m, graph, wanted, marks, func)?;
+    if grew.rows {
+        mark_callers(alloc, m, graph, wanted, marks, func, grew.class)?;
     }
-    Ok(grew)
+    Ok(grew.rows)
 }
 
 /// Refreshes each marked function, in order; true where rows were added.

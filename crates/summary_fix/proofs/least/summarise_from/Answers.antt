@@ -1,4 +1,4 @@
-use Rattle.std.proofs.Common.{◌≡◌, ◌≤◌, ◌^◌, ◌∙◌, List, Bool, length, refl, subst, sym, arith}
+use Rattle.std.proofs.Common.{◌≡◌, ◌≤◌, ◌∙◌, List, Bool, length, refl, subst, sym, arith}
 use Rattle.wasm_types.specs.declared.place.LimitKind.TheVariants as limit
 use Rattle.wasm_types.specs.Spaces.{func_types}
 use Rattle.worklist.specs.Search.{IsMarked}

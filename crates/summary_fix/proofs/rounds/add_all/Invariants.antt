@@ -1,6 +1,7 @@
-use Rattle.std.proofs.Common.{ℕ, ◌≤◌}
+use Rattle.std.proofs.Common.{◌≡◌, ℕ, ◌≤◌, true}
 use Rattle.flow_domain.specs.Reach.{CallsFunc}
 use Rattle.flow_domain.specs.Summaries.{table_room}
+use Rattle.call_graph.specs.Graph.{CallsNumber}
 use Rattle.called_rows.specs.Classes.{IsTargetTable}
 use Rattle.summary_fix.specs.Settled.{IsFull, IsSound}
 use Rattle.summary_fix.proofs.rounds.add_all.Given as goal
@@ -9,7 +10,7 @@ abbrev pub invariant-loop-grew : goal.invariant-loop-grew
 invariant-loop-grew l = record {
   sound : IsSound l.m l.table;
   targets : IsTargetTable l.m l.graph l.table l.targets;
-  others : (f : ℕ) → IsFull l.m l.initial.table f → (CallsFunc l.m f l.func → ⊥) → IsFull l.m l.table f;
+  others : (f : ℕ) → IsFull l.m l.initial.table f → (CallsNumber l.m f l.func → ⊥) → (l.wide ≡ true → CallsFunc l.m f l.func → ⊥) → IsFull l.m l.table f;
   room : table_room l.table ≤ table_room l.initial.table;
 }
 

@@ -1,11 +1,12 @@
-use Rattle.called_rows.proofs.ClassLemmas.{takes_rows}
-use Rattle.summary_fix.proofs.Stepping.{own_type, apart_of, has_known, rows_shape, rows_globals, sound_more, full_more, full_made}
+use Rattle.std.proofs.Common.{◌∙◌, sym}
+use Rattle.called_rows.proofs.ClassLemmas.{had_by_targets, takes_rows}
+use Rattle.summary_fix.proofs.Stepping.{own_type, has_known, rows_shape, rows_globals, sound_more, full_more, full_made}
 use Rattle.summary_fix.proofs.Owned.{value_of, body_at}
 use Rattle.wasm_types.specs.Spaces.{body_of}
 use Rattle.summary_fix.proofs.rounds.add_rows.Goals as goal
 
-pub add-requires : goal.add-requires
-add-requires c =
+pub add-wide-requires : goal.add-wide-requires
+add-wide-requires c =
     let m = c.args.m.now in
     let typed = own_type m c.args.table.now c.requires.sound c.args.func c.requires.body in
     takes_rows m c.args.graph.now c.args.table.now c.args.targets.now c.requires.targets c.args.func typed.0 typed.1 c.in_ok-rows.rows
@@ -13,7 +14,7 @@ add-requires c =
 
 pub returns-clause-targets : goal.returns-clause-targets
 returns-clause-targets c =
-    c.add.ensures c.args.m.now c.args.table.now c.merge-grew.new.self c.requires.graph c.merge-grew.ensures.merged c.requires.targets
+    c.add-wide.ensures.added c.args.m.now c.args.table.now c.merge-grew.new.self c.requires.graph c.merge-grew.ensures.merged c.requires.targets
 
 pub merge-grew-requires-clause-shape : goal.merge-grew-requires-clause-shape
 merge-grew-requires-clause-shape c =
@@ -32,11 +33,16 @@ returns-clause-sound c =
 
 pub returns-clause-full : goal.returns-clause-full
 returns-clause-full c = λ apart.
-    full_made c.args.m.now c.args.table.now c.merge-grew.new.self c.args.func c.in_ok-rows.rows c.merge-grew.ensures.merged
-    (λ W exact o x known led. (c.in_ok-rows.ensures.exact W exact o known x).1 led)
-    (apart_of c.merge-grew.result apart c.merge-grew.ensures.same)
+    full_made c.args.m.now c.args.table.now c.merge-grew.new.self c.args.func c.in_ok-rows.rows c.merge-grew.ensures.merged c.growth_of.result
+    (λ off. c.merge-grew.ensures.same (sym c.growth_of.ensures.rows ∙ off))
+    (λ on narrow. had_by_targets c.args.m.now c.args.graph.now c.args.table.now c.args.targets.now c.requires.graph c.requires.targets c.args.func c.in_ok-rows.rows
+    (c.add-wide.ensures.same (c.growth_of.ensures.wide on narrow)))
+    (λ W exact o x known led. (c.in_ok-rows.ensures.exact W exact o known x).1 led) apart
 
 pub returns-clause-others : goal.returns-clause-others
 returns-clause-others c = λ f full apart.
-    full_more c.args.m.now c.args.table.now c.merge-grew.new.self c.args.func c.in_ok-rows.rows c.merge-grew.ensures.merged f full
-    (apart_of c.merge-grew.result apart c.merge-grew.ensures.same)
+    full_more c.args.m.now c.args.table.now c.merge-grew.new.self c.args.func c.in_ok-rows.rows c.merge-grew.ensures.merged c.growth_of.result
+    (λ off. c.merge-grew.ensures.same (sym c.growth_of.ensures.rows ∙ off))
+    (λ on narrow. had_by_targets c.args.m.now c.args.graph.now c.args.table.now c.args.targets.now c.requires.graph c.requires.targets c.args.func c.in_ok-rows.rows
+    (c.add-wide.ensures.same (c.growth_of.ensures.wide on narrow)))
+    f full apart

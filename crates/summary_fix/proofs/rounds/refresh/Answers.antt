@@ -20,6 +20,9 @@ returns-in_ok-mark_callers-clause-settled c =
     let old = c.requires.settled.long in
     let was = c.requires.sound.table.long in
     let is = c.in_ok-grew.ensures.sound.table.long in
-    settled_after c.args.m.now c.args.table.now c.fill.new.table c.args.wanted.now marks c.mark_callers.new.marks func c.requires.settled (omega arith)
-    (omega arith) c.in_ok-grew.ensures.full (λ f full apart. c.in_ok-grew.ensures.others f full (λ on. apart)) c.in_ok-mark_callers.ensures.kept
-    c.in_ok-mark_callers.ensures.all
+    settled_after c.args.m.now c.args.table.now c.fill.new.table c.args.wanted.now marks c.mark_callers.new.marks func c.in_ok-grew.grew c.requires.settled
+    (omega arith) (omega arith) c.in_ok-grew.ensures.full c.in_ok-grew.ensures.others c.in_ok-mark_callers.ensures.kept
+    (λ f want off. (
+      λ on calls. off (c.in_ok-mark_callers.ensures.numbers f calls want),
+      λ on calls. off (c.in_ok-mark_callers.ensures.every on f calls want),
+    ))
