@@ -8,3 +8,4 @@ pub mod FindLemmas
 pub mod LeaveLemmas
 pub mod NearLemmas
 pub mod InwardLemmas
+pub mod StraightLemmas

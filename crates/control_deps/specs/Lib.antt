@@ -5,3 +5,4 @@ pub mod Deciders
 pub mod Leaving
 pub mod Nearest
 pub mod Packing
+pub mod Straight

@@ -211,7 +211,23 @@ impl Deciders {
     pub fn of(alloc: Global, nest: &Nest) -> Result<Deciders, NoMemory>
         ensures { IfOk result (λ deciders. AreNearest nest.now deciders) }
     {
-        let spots = nest.spots();
+        match nest.spots() {
+            Some(spots) => {
+                let deciders = Deciders::among(alloc, spots)?;
+                Ok(deciders)
+            }
+            None => Ok(Deciders {
+                rows: Vec::new(alloc),
+                exits: Vec::new(alloc),
+            }),
+        }
+    }
+
+    /// The same, by the positions.
+    fn among(alloc: Global, spots: &[Packed]) -> Result<Deciders, NoMemory>
+        requires { AreNested spots.now }
+        ensures { IfOk result (λ deciders. AreNearest spots.now deciders) }
+    {
         let mut exits = vec![in alloc; None; spots.len() + 1].map_err(|_| NoMemory)?;
         let mut rows = Vec::with_capacity(alloc, spots.len()).map_err(|_| NoMemory)?;
         for at in 0..spots.len() {

@@ -5,6 +5,7 @@ mod deciders;
 mod nest;
 mod shadow;
 mod spot;
+mod straight;
 mod walk;
 
 pub use deciders::{Deciders, Nearest};

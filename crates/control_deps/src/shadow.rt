@@ -125,7 +125,10 @@ fn shades(spots: &[Packed], branch: Pos, node: Node) -> bool
 pub fn in_shadow(nest: &Nest, branch: Pos, node: Node) -> bool
     ensures { Tells nest.now branch.0 node result }
 {
-    shades(nest.spots(), branch, node)
+    match nest.spots() {
+        Some(spots) => shades(spots, branch, node),
+        None => false,
+    }
 }
 
 /// Adds a position whose shadow has a node.
@@ -144,15 +147,29 @@ fn add_decider(
     Ok(())
 }
 
-/// All ifs and branches whose shadow has a node, rising. An error comes only where memory is refused.
-pub fn decided_by(alloc: Global, nest: &Nest, node: Node) -> Result<Vec<Pos>, NoMemory>
+/// All ifs and branches among some positions whose shadow has a node, rising.
+fn all_of(alloc: Global, spots: &[Packed], node: Node) -> Result<Vec<Pos>, NoMemory>
+    requires { AreNested spots.now }
     ensures rising { IfOk result (λ found. AllPairs (λ a b. a.0 < b.0) found.items) }
-    ensures exact { IfOk result (λ found. AreDeciders nest.now node found.items) }
+    ensures exact { IfOk result (λ found. AreDeciders spots.now node found.items) }
 {
-    let spots = nest.spots();
     let mut found = Vec::new(alloc);
     for at in 0..spots.len() {
         add_decider(spots, Pos(at as u32), node, &mut found)?;
     }
     Ok(found)
+}
+
+/// All ifs and branches whose shadow has a node, rising. An error comes only where memory is refused.
+pub fn decided_by(alloc: Global, nest: &Nest, node: Node) -> Result<Vec<Pos>, NoMemory>
+    ensures rising { IfOk result (λ found. AllPairs (λ a b. a.0 < b.0) found.items) }
+    ensures exact { IfOk result (λ found. AreDeciders nest.now node found.items) }
+{
+    match nest.spots() {
+        Some(spots) => {
+            let found = all_of(alloc, spots, node)?;
+            Ok(found)
+        }
+        None => Ok(Vec::new(alloc)),
+    }
 }

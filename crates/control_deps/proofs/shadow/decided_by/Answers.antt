@@ -1,19 +1,6 @@
-use Rattle.std.proofs.Common.{List, sym, subst}
-use Rattle.wasm_types.specs.declared.module.Pos.{Pos}
-use Rattle.control_deps.specs.declared.spot.Spot.{Spot}
-use Rattle.control_deps.specs.Deciders.{AreDeciders}
-use Rattle.control_deps.proofs.DeciderLemmas.{DecidersBelow, deciders_none, deciders_more, deciders_all}
+use Rattle.std.proofs.Common.{refl}
+use Rattle.control_deps.proofs.StraightLemmas.{deciders_straight}
 use Rattle.control_deps.proofs.shadow.decided_by.Goals as goal
 
-pub loop-at-init : goal.loop-at-init
-loop-at-init c = subst (λ (z : List Pos). DecidersBelow c.spots-spots.result.now c.args.node 0 z) (sym c.new-found.ensures.items) (deciders_none c.spots-spots.result.now c.args.node)
-
-pub loop-at-preserved : goal.loop-at-preserved
-loop-at-preserved c = deciders_more c.spots-spots.result.now c.args.node c.loop-at.at c.loop-at.found.items c.add_decider.new.found.items c.loop-at.invariant c.in_ok-add_decider.ensures
-
-pub returns : goal.returns
-returns c = record {
-  rising = c.loop-at.invariant.rising;
-  exact = subst (λ (z : List Spot). AreDeciders z c.args.node c.loop-at.found.items) c.spots-spots.ensures.same
-      (deciders_all c.spots-spots.result.now c.args.node c.loop-at.at c.loop-at.found.items c.loop-at-test.false c.loop-at.invariant);
-}
+pub returns-in-None-clause-exact : goal.returns-in-None-clause-exact
+returns-in-None-clause-exact c = deciders_straight c.args.nest.now (c.in-None.ensures.none refl) c.args.node c.new.result.items c.new.ensures.items

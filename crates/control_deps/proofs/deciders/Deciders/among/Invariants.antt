@@ -1,5 +1,5 @@
 use Rattle.control_deps.specs.Leaving.{AreExits, AreRows}
-use Rattle.control_deps.proofs.deciders.Deciders.of.Given as goal
+use Rattle.control_deps.proofs.deciders.Deciders.among.Given as goal
 
 abbrev pub invariant-loop-at : goal.invariant-loop-at
 invariant-loop-at l = record {

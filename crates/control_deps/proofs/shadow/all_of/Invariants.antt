@@ -1,5 +1,5 @@
 use Rattle.control_deps.proofs.DeciderLemmas.{DecidersBelow}
-use Rattle.control_deps.proofs.shadow.decided_by.Given as goal
+use Rattle.control_deps.proofs.shadow.all_of.Given as goal
 
 abbrev pub invariant-loop-at : goal.invariant-loop-at
 invariant-loop-at l = DecidersBelow l.spots l.node l.at l.found.items
