@@ -16,3 +16,5 @@ pub mod Dead
 pub mod Searching
 pub mod Heads
 pub mod Placed
+pub mod Passing
+pub mod RunLemmas

@@ -34,7 +34,8 @@ use Rattle.slice_closure.specs.declared.spot.Touch.TheVariants as touch
 use Rattle.slice_closure.specs.declared.spot.Came.TheVariants.{After}
 use Rattle.slice_closure.specs.Flow.{AsksBelow, touch_at, ways_to}
 use Rattle.slice_closure.specs.Items.{loc_number, item_number, Numbered}
-use Rattle.slice_closure.specs.Next.{FromEach, FromBelow, value_item, Maker, ArgumentAt, InputAt, Asks, Arrives, Passes, Fits, IsHolder}
+use Rattle.slice_closure.specs.Next.{FromEach, FromBelow, value_item, Maker, ArgumentAt, InputAt, Asks, Arrives, Fits, IsHolder}
+use Rattle.slice_closure.specs.Runs.{Lands}
 use Rattle.slice_closure.proofs.Numbers.{outer_once}
 
 none_there : {A : Type 0} (x : A) → Contains [] x → ⊥
@@ -156,7 +157,7 @@ same_pos p q e = let same : p ≡ q = cc in ap (λ (z : Pos). z.0) same
 writes_is : (W : Table) (x : Loc) (n : Node) → Writes W x n → (p : ℕ) × ((n ≡ At p) × W p x)
 writes_is W x _ (writes_it {p} w) = (p, (refl, w))
 
-written_there : (W : Table) (x : Loc) (p : ℕ) → Writes W x (At p) → W p x
+pub written_there : (W : Table) (x : Loc) (p : ℕ) → Writes W x (At p) → W p x
 written_there W x p (writes_it w) = w
 
 pub writes_at : (W : Table) (x : Loc) (n : Node) (pos : Pos) (b : Bool) → n ≡ node.At pos → (b ≡ true) ↔ W pos.0 x → (b ≡ true) ↔ Writes W x n
@@ -226,11 +227,11 @@ asked_same N t u p xs ys is g = subst (λ z. Gains (Numbered N (Asks z p)) xs ys
 -- ---- points before a point
 
 pub one_after : (N : ℕ) (t : Tables) (point earlier : Node) (x : Loc) (xs ys : List ℕ) → Arrives t point earlier
-    → Gains (Numbered N (Passes t x earlier)) xs ys → Gains (Numbered N (λ j. (b : Node) × (Arrives t point b × Passes t x b j))) xs ys
+    → Gains (Numbered N (Lands t x earlier)) xs ys → Gains (Numbered N (λ j. (b : Node) × (Arrives t point b × Lands t x b j))) xs ys
 one_after N t point earlier x xs ys came g =
-    numbered_same N (Passes t x earlier) (λ j. (b : Node) × (Arrives t point b × Passes t x b j)) xs ys
+    numbered_same N (Lands t x earlier) (λ j. (b : Node) × (Arrives t point b × Lands t x b j)) xs ys
     (λ j p. (earlier, (came, p)))
-    (λ j (b, (also, p)). subst (λ z. Passes t x z j) (same_after b earlier (sym also ∙ came)) p)
+    (λ j (b, (also, p)). subst (λ z. Lands t x z j) (same_after b earlier (sym also ∙ came)) p)
     g
   where
     same_after : (a b : Node) → After a ≡ After b → a ≡ b

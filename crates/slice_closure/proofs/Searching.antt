@@ -20,9 +20,11 @@ use Rattle.slice_closure.specs.declared.items.Item.{Item}
 use Rattle.slice_closure.specs.declared.items.Item.TheVariants.{Keeps}
 use Rattle.slice_closure.specs.Items.{item_number, IsItem, Numbered}
 use Rattle.slice_closure.specs.Next.{operands_at, whom_in, value_by, value_item, First, Next, Fits}
-use Rattle.slice_closure.specs.NextLaws.{value_fits, next_item, item_below}
+use Rattle.slice_closure.specs.Runs.{Short}
+use Rattle.slice_closure.specs.NextLaws.{value_fits, short_item, item_below}
 use Rattle.slice_closure.proofs.Numbers.{item_one}
 use Rattle.slice_closure.proofs.Right.{all_from}
+use Rattle.slice_closure.proofs.RunLemmas.{keeps_met, values_met}
 
 nothing_there : (x : ℕ) → Contains [] x → ⊥
 nothing_there x (k, lt, is) = omega arith
@@ -47,12 +49,12 @@ module _ (N L : ℕ) (t : Tables) (at : Pos) (fits : Fits N L t) (fit : number (
       subst (IsItem N L) (sym e) (value_there place.maker
       (All-contains (λ (q : Place). number q.maker < N) (operands_at t at.0) place (fits.operands at.0) has))
 
-  met_item : (i : Item) → Reached (First t at) (Next t) i → IsItem N L i
+  met_item : (i : Item) → Reached (First t at) (Short t) i → IsItem N L i
   met_item i (root h) = first_item i h
-  met_item i (step w h e) = next_item N L t fits w (met_item w h) i e
+  met_item i (step w h e) = short_item N L t fits w (met_item w h) i e
 
-  packs : Packs (IsItem N L) (item_number N) (First t at) (Next t)
-  packs = record { injective = λ i j v v' e. item_one N L i j v v' e; roots = first_item; edges = λ i j v e. next_item N L t fits i v j e }
+  packs : Packs (IsItem N L) (item_number N) (First t at) (Short t)
+  packs = record { injective = λ i j v v' e. item_one N L i j v v' e; roots = first_item; edges = λ i j v e. short_item N L t fits i v j e }
 
   -- the numbers at which the search begins
   pub first_below : (list roots : List ℕ) → Gains (Numbered N (First t at)) [] list → roots ≡ list → All (λ x. x < (2 * L + 2) * N) roots
@@ -65,11 +67,11 @@ module _ (N L : ℕ) (t : Tables) (at : Pos) (fits : Fits N L t) (fit : number (
   Begins = PackedRoot (item_number N) (First t at)
 
   abbrev Edge : ℕ → ℕ → Type 0
-  Edge = PackedEdge (IsItem N L) (item_number N) (Next t)
+  Edge = PackedEdge (IsItem N L) (item_number N) (Short t)
 
   -- the marks of a search from there tell the items that are met
   module _ (list roots : List ℕ) (gained : Gains (Numbered N (First t at)) [] list) (is : roots ≡ list) (marks : List Bool)
-      (exact : (x : ℕ) → IsMarked marks x ↔ Reached (Contains roots) (PackedEdge (IsItem N L) (item_number N) (Next t)) x) where
+      (exact : (x : ℕ) → IsMarked marks x ↔ Reached (Contains roots) (PackedEdge (IsItem N L) (item_number N) (Short t)) x) where
     in_first : (x : ℕ) → Contains roots x → Begins x
     in_first x has = ⊎_elim (λ none. absurd (nothing_there x none)) (λ (j, (first, e)). (j, (e, first)))
         (gained.only x (subst (λ (zs : List ℕ). Contains zs x) is has))
@@ -77,27 +79,39 @@ module _ (N L : ℕ) (t : Tables) (at : Pos) (fits : Fits N L t) (fit : number (
     first_in : (x : ℕ) → Begins x → Contains roots x
     first_in x (j, (e, first)) = subst (λ (zs : List ℕ). Contains zs x) (sym is) (gained.all x (j, (first, e)))
 
-    marked_met : (i : Item) → IsItem N L i → IsMarked marks (item_number N i) ↔ Reached (First t at) (Next t) i
+    marked_met : (i : Item) → IsItem N L i → IsMarked marks (item_number N i) ↔ Reached (First t at) (Short t) i
     marked_met i ok = (
-      λ on. (packed_reached (IsItem N L) (item_number N) (First t at) (Next t) packs i ok).0
+      λ on. (packed_reached (IsItem N L) (item_number N) (First t at) (Short t) packs i ok).0
           (reached_more (Contains roots) Begins Edge Edge in_first (λ x y e. e) (item_number N i) ((exact (item_number N i)).0 on)),
       λ met. (exact (item_number N i)).1 (reached_more Begins (Contains roots) Edge Edge first_in (λ x y e. e) (item_number N i)
-          ((packed_reached (IsItem N L) (item_number N) (First t at) (Next t) packs i ok).1 met)),
+          ((packed_reached (IsItem N L) (item_number N) (First t at) (Short t) packs i ok).1 met)),
     )
 
     -- the kept nodes
     pub search_exact : (n : Node) → ((number n < N) × IsMarked marks (number n)) ↔ Reached (First t at) (Next t) (Keeps n)
     search_exact n =
-        let same : item_number N (Keeps n) ≡ number n = omega arith in (
-          λ (lt, on). (marked_met (Keeps n) (tt, lt)).0 (subst (IsMarked marks) (sym same) on),
-          λ met. let lt : number n < N = (met_item (Keeps n) met).1 in (lt, subst (IsMarked marks) same ((marked_met (Keeps n) (tt, lt)).1 met)),
+        let same : item_number N (Keeps n) ≡ number n = omega arith in
+        let both = keeps_met t (First t at) n in (
+          λ (lt, on). both.0 ((marked_met (Keeps n) (tt, lt)).0 (subst (IsMarked marks) (sym same) on)),
+          λ met.
+              let short = both.1 met in
+              let lt : number n < N = (met_item (Keeps n) short).1 in
+              (lt, subst (IsMarked marks) same ((marked_met (Keeps n) (tt, lt)).1 short)),
         )
 
     -- a test of the nodes whose value is met
     value_marked : (n : Node) (b : Bool) → nat_lt (number n) N ≡ b
         → (if b then slice_index_or marks (item_number N (value_item t n)) false else false) ≡ true ↔ Reached (First t at) (Next t) (value_item t n)
-    value_marked n true e = marked_met (value_item t n) (value_there n (is_below (number n) N e))
-    value_marked n false e = (λ h. absurd cc, λ met. absurd (not_below (number n) N e (node_below (whom_in t n) n (met_item (value_item t n) met))))
+    value_marked n true e =
+        let both = values_met t (First t at) n in
+        let tells = marked_met (value_item t n) (value_there n (is_below (number n) N e)) in
+        (λ on. both.0 (tells.0 on), λ met. tells.1 (both.1 met))
+    value_marked n false e = (
+      λ h. absurd cc,
+      λ met.
+          let short = (values_met t (First t at) n).1 met in
+          absurd (not_below (number n) N e (node_below (whom_in t n) n (met_item (value_item t n) short))),
+    )
 
     pub values_told : (makers : Node → Bool) × ((n : Node) → makers n ≡ true ↔ Reached (First t at) (Next t) (value_item t n))
     values_told = (

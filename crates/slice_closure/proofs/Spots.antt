@@ -26,7 +26,8 @@ use Rattle.slice_closure.specs.declared.spot.Touch.{Touch}
 use Rattle.slice_closure.specs.declared.spot.Touch.TheVariants as touch
 use Rattle.slice_closure.specs.declared.items.Item.{Item}
 use Rattle.slice_closure.specs.declared.items.Item.TheVariants.{Needs}
-use Rattle.slice_closure.specs.Flow.{uses_in, written_by, touch_in, touch_by, touch_of, touch_at, whom_in_touch, taken_is, through, onward, holder, spots_in, Doing, does_by, doings}
+use Rattle.slice_closure.specs.Flow.{uses_in, written_by, touch_in, touch_by, touch_of, touch_at, whom_in_touch, taken_is, through}
+use Rattle.slice_closure.specs.Flow.{onward, holder, fork, spots_in, Doing, does_by, doings}
 use Rattle.slice_closure.specs.Next.{Asks}
 use Rattle.slice_closure.proofs.Coming.{came_live, through_live, onward_live}
 
@@ -56,7 +57,7 @@ spots_doings came (branch kind x y rest) p =
     let X = spots_in (through came (At p)) x (p + 1) in
     let Y = spots_in (through came (At p)) y (p + 1 + count x) in
     let R = spots_in (through came (Join p)) rest (p + 1 + count x + count y) in
-    ap (λ ts. doing_in (holder came) ∷ ts) (map_both doing_in X (Y ++ R) ∙ ap₂ (λ (a b : List Doing). a ++ b) (spots_doings (through came (At p)) x (p + 1))
+    ap (λ ts. doing_in (fork came) ∷ ts) (map_both doing_in X (Y ++ R) ∙ ap₂ (λ (a b : List Doing). a ++ b) (spots_doings (through came (At p)) x (p + 1))
     (map_both doing_in Y R ∙ ap₂ (λ (a b : List Doing). a ++ b) (spots_doings (through came (At p)) y (p + 1 + count x))
     (spots_doings (through came (Join p)) rest (p + 1 + count x + count y))))
 

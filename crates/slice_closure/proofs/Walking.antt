@@ -12,7 +12,7 @@ use Rattle.slice_closure.specs.declared.spot.Came.{Came}
 use Rattle.slice_closure.specs.declared.spot.Spot.{Spot}
 use Rattle.slice_closure.specs.declared.walk.Trail.{Trail}
 use Rattle.slice_closure.specs.Takens.{taken_by}
-use Rattle.slice_closure.specs.Flow.{touch_of, through, onward, came_at, holder, spots_in, Way, lead, leaves, where_came, ways_in, Walks, WalksInner}
+use Rattle.slice_closure.specs.Flow.{touch_of, through, onward, came_at, holder, fork, spots_in, Way, lead, leaves, where_came, ways_in, Walks, WalksInner}
 
 pub length_spots : (came : Came) (c : Code) (p : ℕ) → length (spots_in came c p) ≡ count c
 length_spots came done p = refl
@@ -124,25 +124,25 @@ leaves_next labels came mid mid' i rest before whole first now next is all step 
 -- ---- one instruction
 
 -- its position is passed, and then what it holds
-module _ (labels : List Node) (came : Came) (old mid : Trail) (p : ℕ) (p_is : p ≡ length old.spots.items)
-    (passed : mid.spots.items ≡ old.spots.items ++ holder came ∷ []) (same : mid.ways.items ≡ old.ways.items) where
+module _ (labels : List Node) (came : Came) (here : Spot) (old mid : Trail) (p : ℕ) (p_is : p ≡ length old.spots.items)
+    (passed : mid.spots.items ≡ old.spots.items ++ here ∷ []) (same : mid.ways.items ≡ old.ways.items) where
   mid_at : length mid.spots.items ≡ length old.spots.items + 1
-  mid_at = ap length passed ∙ length-append old.spots.items (holder came ∷ [])
+  mid_at = ap length passed ∙ length-append old.spots.items (here ∷ [])
 
   inner_spots : (label k : Node) (c : Code) (new : Trail) → WalksInner (label ∷ labels) (through came (At p)) c k mid new
-      → new.spots.items ≡ old.spots.items ++ holder came ∷ spots_in (through came (At (length old.spots.items))) c (length old.spots.items + 1)
+      → new.spots.items ≡ old.spots.items ++ here ∷ spots_in (through came (At (length old.spots.items))) c (length old.spots.items + 1)
   inner_spots label k c new w =
       w.spots ∙ (ap₂ (λ (l r : List Spot). l ++ r) passed (ap₂ (λ (z n : ℕ). spots_in (through came (At z)) c n) p_is mid_at)
-      ∙ append_assoc old.spots.items (holder came ∷ []) (spots_in (through came (At (length old.spots.items))) c (length old.spots.items + 1)))
+      ∙ append_assoc old.spots.items (here ∷ []) (spots_in (through came (At (length old.spots.items))) c (length old.spots.items + 1)))
 
-  pub block_walks : (i : Instr) (kind : Option ValType) (xs : List Instr) → i ≡ v.Block kind xs → (new : Trail)
+  pub block_walks : here ≡ holder came → (i : Instr) (kind : Option ValType) (xs : List Instr) → i ≡ v.Block kind xs → (new : Trail)
       → WalksInner (Join p ∷ labels) (through came (At p)) (code_of xs) (Join p) mid new → Walks labels came (onto i done) old new (through came (Join p))
-  block_walks i kind xs is new w =
+  block_walks here_is i kind xs is new w =
       let q = length old.spots.items in
       let code : block kind (code_of xs) done ≡ onto i done = sym (ap (λ z. onto z done) is ∙ onto-block kind xs done) in
       subst (λ z. Walks labels came z old new (through came (Join p))) code (record {
         spots = inner_spots (Join p) (Join p) (code_of xs) new w
-            ∙ ap (λ z. old.spots.items ++ holder came ∷ z) (sym (append-nil (spots_in (through came (At q)) (code_of xs) (q + 1))));
+            ∙ ap₂ (λ (s : Spot) (z : List Spot). old.spots.items ++ s ∷ z) here_is (sym (append-nil (spots_in (through came (At q)) (code_of xs) (q + 1))));
         ways =
             w.ways ∙ (ap₂ (λ (l r : List Way). l ++ r) same (ap₂ (λ (z n : ℕ). ways_in (Join z ∷ labels) (through came (At z)) (code_of xs) n
             ++ lead (came_at (through came (At z)) (code_of xs) n) (Join z)) p_is mid_at)
@@ -151,14 +151,14 @@ module _ (labels : List Node) (came : Came) (old mid : Trail) (p : ℕ) (p_is : 
         came_is = ap (λ z. through came (Join z)) p_is;
       })
 
-  pub loop_walks : (i : Instr) (kind : Option ValType) (xs : List Instr) → i ≡ v.Loop kind xs → (new : Trail)
+  pub loop_walks : here ≡ holder came → (i : Instr) (kind : Option ValType) (xs : List Instr) → i ≡ v.Loop kind xs → (new : Trail)
       → WalksInner (At p ∷ labels) (through came (At p)) (code_of xs) (Join p) mid new → Walks labels came (onto i done) old new (through came (Join p))
-  loop_walks i kind xs is new w =
+  loop_walks here_is i kind xs is new w =
       let q = length old.spots.items in
       let code : repeat kind (code_of xs) done ≡ onto i done = sym (ap (λ z. onto z done) is ∙ onto-loop kind xs done) in
       subst (λ z. Walks labels came z old new (through came (Join p))) code (record {
         spots = inner_spots (At p) (Join p) (code_of xs) new w
-            ∙ ap (λ z. old.spots.items ++ holder came ∷ z) (sym (append-nil (spots_in (through came (At q)) (code_of xs) (q + 1))));
+            ∙ ap₂ (λ (s : Spot) (z : List Spot). old.spots.items ++ s ∷ z) here_is (sym (append-nil (spots_in (through came (At q)) (code_of xs) (q + 1))));
         ways =
             w.ways ∙ (ap₂ (λ (l r : List Way). l ++ r) same (ap₂ (λ (z n : ℕ). ways_in (At z ∷ labels) (through came (At z)) (code_of xs) n
             ++ lead (came_at (through came (At z)) (code_of xs) n) (Join z)) p_is mid_at)
@@ -167,10 +167,10 @@ module _ (labels : List Node) (came : Came) (old mid : Trail) (p : ℕ) (p_is : 
         came_is = ap (λ z. through came (Join z)) p_is;
       })
 
-  pub if_walks : (i : Instr) (kind : Option ValType) (xs ys : List Instr) → i ≡ v.If kind xs ys → (half new : Trail)
+  pub if_walks : here ≡ fork came → (i : Instr) (kind : Option ValType) (xs ys : List Instr) → i ≡ v.If kind xs ys → (half new : Trail)
       → WalksInner (Join p ∷ labels) (through came (At p)) (code_of xs) (Join p) mid half
       → WalksInner (Join p ∷ labels) (through came (At p)) (code_of ys) (Join p) half new → Walks labels came (onto i done) old new (through came (Join p))
-  if_walks i kind xs ys is half new w u =
+  if_walks here_is i kind xs ys is half new w u =
       let q = length old.spots.items in
       let x = code_of xs in
       let y = code_of ys in
@@ -179,7 +179,7 @@ module _ (labels : List Node) (came : Came) (old mid : Trail) (p : ℕ) (p_is : 
       let A = ways_in (Join q ∷ labels) (through came (At q)) x (q + 1) ++ lead (came_at (through came (At q)) x (q + 1)) (Join q) in
       let B = ways_in (Join q ∷ labels) (through came (At q)) y (q + 1 + count x) ++ lead (came_at (through came (At q)) y (q + 1 + count x)) (Join q) in
       let first = inner_spots (Join p) (Join p) x half w in
-      let half_at : length half.spots.items ≡ q + 1 + count x = ap length first ∙ (length-append old.spots.items (holder came ∷ X)
+      let half_at : length half.spots.items ≡ q + 1 + count x = ap length first ∙ (length-append old.spots.items (here ∷ X)
       ∙ (let n : length X ≡ count x = length_spots (through came (At q)) x (q + 1) in omega arith)) in
       let code : branch kind x y done ≡ onto i done = sym (ap (λ z. onto z done) is ∙ onto-if kind xs ys done) in
       let ways_x : half.ways.items ≡ old.ways.items ++ A = w.ways ∙ ap₂ (λ (l r : List Way). l ++ r) same (ap₂ (λ (z n : ℕ). ways_in (Join z ∷ labels)
@@ -187,7 +187,7 @@ module _ (labels : List Node) (came : Came) (old mid : Trail) (p : ℕ) (p_is : 
       subst (λ z. Walks labels came z old new (through came (Join p))) code (record {
         spots =
             u.spots ∙ (ap₂ (λ (l r : List Spot). l ++ r) first (ap₂ (λ (z n : ℕ). spots_in (through came (At z)) y n) p_is half_at)
-            ∙ (append_assoc old.spots.items (holder came ∷ X) Y ∙ ap (λ z. old.spots.items ++ holder came ∷ (X ++ z)) (sym (append-nil Y))));
+            ∙ (append_assoc old.spots.items (here ∷ X) Y ∙ ap₂ (λ (s : Spot) (z : List Spot). old.spots.items ++ s ∷ (X ++ z)) here_is (sym (append-nil Y))));
         ways =
             u.ways ∙ (ap₂ (λ (l r : List Way). l ++ r) ways_x (ap₂ (λ (z n : ℕ). ways_in (Join z ∷ labels) (through came (At z)) y n
             ++ lead (came_at (through came (At z)) y n) (Join z)) p_is half_at)
@@ -216,8 +216,8 @@ inner_walks labels came end c k old mid new w spots ways = record {
       ∙ append_assoc old.ways.items (ways_in labels came c (length old.spots.items)) (lead (came_at came c (length old.spots.items)) k));
 }
 
-pub passed_longer : (came : Came) (old mid : List Spot) → mid ≡ old ++ holder came ∷ [] → length mid ≡ length old + 1
-passed_longer came old mid e = ap length e ∙ length-append old (holder came ∷ [])
+pub passed_longer : (here : Spot) (old mid : List Spot) → mid ≡ old ++ here ∷ [] → length mid ≡ length old + 1
+passed_longer here old mid e = ap length e ∙ length-append old (here ∷ [])
 
 pub inner_longer : (labels : List Node) (came : Came) (c : Code) (k : Node) (a b : Trail) → WalksInner labels came c k a b
     → length b.spots.items ≡ length a.spots.items + count c

@@ -111,6 +111,10 @@ came_at came (branch kind x y rest) p = came_at (through came (Join p)) rest (p 
 abbrev pub holder : Came → Spot
 holder came = record { came = came; touch = touch.Nothing; taken = taken.All }
 
+-- the same of an if
+abbrev pub fork : Came → Spot
+fork came = record { came = came; touch = touch.Nothing; taken = taken.Test }
+
 abbrev pub spots_in : Came → Code → ℕ → List Spot
 spots_in came done p = []
 spots_in came (one i rest) p = record { came = came; touch = touch_of i; taken = taken_by i } ∷ spots_in (onward came i p) rest (p + 1)
@@ -119,7 +123,7 @@ spots_in came (block kind inner rest) p =
 spots_in came (repeat kind inner rest) p =
     holder came ∷ (spots_in (through came (At p)) inner (p + 1) ++ spots_in (through came (Join p)) rest (p + 1 + count inner))
 spots_in came (branch kind x y rest) p =
-    holder came ∷ (spots_in (through came (At p)) x (p + 1) ++ (spots_in (through came (At p)) y (p + 1 + count x) ++ spots_in (through came (Join p)) rest (p + 1 + count x + count y)))
+    fork came ∷ (spots_in (through came (At p)) x (p + 1) ++ (spots_in (through came (At p)) y (p + 1 + count x) ++ spots_in (through came (Join p)) rest (p + 1 + count x + count y)))
 
 -- ---- what instructions take and touch, and the same of what stands at a position
 
@@ -142,7 +146,7 @@ doings done = []
 doings (one op rest) = does_by op ∷ doings rest
 doings (block kind inner rest) = (taken.All, touch.Nothing) ∷ (doings inner ++ doings rest)
 doings (repeat kind inner rest) = (taken.All, touch.Nothing) ∷ (doings inner ++ doings rest)
-doings (branch kind x y rest) = (taken.All, touch.Nothing) ∷ (doings x ++ (doings y ++ doings rest))
+doings (branch kind x y rest) = (taken.Test, touch.Nothing) ∷ (doings x ++ (doings y ++ doings rest))
 
 -- ---- ways: to a point, and from one that leads there
 

@@ -6,3 +6,5 @@ pub mod Next
 pub mod NextLaws
 pub mod Made
 pub mod Answer
+pub mod Runs
+pub mod RunLaws

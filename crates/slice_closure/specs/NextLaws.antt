@@ -1,6 +1,6 @@
 -- A search for a kept set stays among its items.
 use Rattle.std.specs.Prelude.{◌≡◌, ℕ, zero, suc, ◌+◌, ◌-◌, ◌*◌, ◌<◌, ◌≤◌, List, [], ◌∷◌, Option, Some, None, drop, length, slice_get}
-use Rattle.std.specs.List.{All, Contains}
+use Rattle.std.specs.List.{Contains}
 use Rattle.std.proofs.Common.{inl, inr, ⊎_elim, arith, subst, sym}
 use Rattle.std.proofs.Math.Nat.{mul-le-mul_right}
 use Rattle.std.proofs.lemmas.Option.{slice_get_within, get_or_from_slice_get}
@@ -32,6 +32,8 @@ use Rattle.slice_closure.specs.declared.items.Item.{Item}
 use Rattle.slice_closure.specs.declared.items.Item.TheVariants.{Keeps, Value, Written, Needs}
 use Rattle.slice_closure.specs.Items.{loc_number, node_of, kind_number, item_number, IsItem}
 use Rattle.slice_closure.specs.Takens.{of_taken}
+use Rattle.slice_closure.specs.Runs.{back, Short}
+use Rattle.slice_closure.specs.RunLaws.{back_below}
 use Rattle.slice_closure.specs.Next.{spot_in, whom_in, value_by, value_item, written_by_item, operands_at, ByRow, ForOutput, Asks, Uses, IsHolder, NextAt, Next, Fits}
 
 past : {A : Type 0} (n : ℕ) (xs : List A) (x : A) → Contains (drop n xs) x → Contains xs x
@@ -46,6 +48,7 @@ nothing_there x (k, lt, is) = omega arith
 pub taken_there : (o : Option Taken) (places : List Place) (place : Place) → Contains (of_taken o places) place → Contains places place
 taken_there None places place h = absurd (nothing_there place h)
 taken_there (Some taken.All) places place h = h
+taken_there (Some taken.Test) places place h = h
 taken_there (Some taken.Last) places place h = past (length places - 1) places place h
 taken_there (Some taken.Nothing) places place h = absurd (nothing_there place h)
 
@@ -142,6 +145,16 @@ module _ (N L : ℕ) (t : Tables) (fits : Fits N L t) where
       let lt = fits.before a b comes in
       ⊎_elim (λ (w, e). subst (IsItem N L) (sym e) (written_fits N L (whom_in t b) x b ok.0 lt)) (λ (free, e). needs_item N L x b j e ok.0 lt) on
 
+  pub short_item : (i : Item) → IsItem N L i → (j : Item) → Short t i j → IsItem N L j
+  short_item (Keeps n) ok j h = next_item (Keeps n) ok j h
+  short_item (Value n) ok j h = next_item (Value n) ok j h
+  short_item (Written x n) ok j h = next_item (Written x n) ok j h
+  short_item (Needs x a) ok j (b, (comes, on)) =
+      let lt = fits.before a b comes in
+      let le = back_below t x b in
+      ⊎_elim (λ (w, e). subst (IsItem N L) (sym e) (written_fits N L (whom_in t b) x b ok.0 lt))
+      (λ (free, e). needs_item N L x (back t x b) j e ok.0 (omega arith)) on
+
 kind_below : (N L : ℕ) (i : Item) → IsItem N L i → kind_number i < 2 * L + 2
 kind_below N L (Keeps n) ok = omega arith
 kind_below N L (Value n) ok = omega arith
@@ -158,6 +171,6 @@ row_below r a k n lt lt' =
 pub item_below : (N L : ℕ) (i : Item) → IsItem N L i → item_number N i < (2 * L + 2) * N
 item_below N L i ok = row_below (2 * L + 2) (kind_number i) (number (node_of i)) N (kind_below N L i ok) ok.1
 
-pub next_stays : (N L : ℕ) (t : Tables) → Fits N L t → (x y : ℕ) → PackedEdge (IsItem N L) (item_number N) (Next t) x y → y < (2 * L + 2) * N
-next_stays N L t fits x y (i, (j, (from, (to, (ok, e))))) =
-    subst (λ n. n < (2 * L + 2) * N) (sym to) (item_below N L j (next_item N L t fits i ok j e))
+pub short_stays : (N L : ℕ) (t : Tables) → Fits N L t → (x y : ℕ) → PackedEdge (IsItem N L) (item_number N) (Short t) x y → y < (2 * L + 2) * N
+short_stays N L t fits x y (i, (j, (from, (to, (ok, e))))) =
+    subst (λ n. n < (2 * L + 2) * N) (sym to) (item_below N L j (short_item N L t fits i ok j e))

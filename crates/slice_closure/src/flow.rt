@@ -9,6 +9,7 @@ ghost use Rattle.wasm_types.specs.Code.{code_of};
 ghost use Rattle.block_cfg.specs.Graph.{number};
 ghost use Rattle.block_cfg.specs.Points.{HasPoints};
 ghost use Rattle.slice_closure.specs.Flow as spec;
+ghost use Rattle.slice_closure.specs.Runs.{is_quiet, straight_at};
 ghost use Rattle.slice_closure.specs.declared.spot.Came.TheVariants as Came;
 
 use crate::items::loc_number;
@@ -17,7 +18,7 @@ use crate::spot::{Came, Taken, Touch};
 use crate::walk::{Trail, walk_code};
 use block_cfg::point_number;
 use std::alloc::Global;
-use wasm_types::{Body, NoMemory, Point, Pos};
+use wasm_types::{Body, Loc, NoMemory, Point, Pos};
 
 /// The positions of a body, and by the number of each point those that lead to it by branches and ends.
 #[derive(Drop)]
@@ -126,6 +127,23 @@ impl Flow {
         match self.spots.get(pos.0 as usize) {
             Some(spot) => Some(spot.taken()),
             None => None,
+        }
+    }
+
+    /// Whether a position leaves a location alone.
+    pub(crate) fn is_quiet(&self, pos: Pos, loc: Loc) -> bool
+        ensures { result ≡ is_quiet (spec.touch_at (slice_get self.now.spots.items pos.0)) loc }
+    {
+        self.touch(pos).is_quiet(loc)
+    }
+
+    /// Whether one point alone comes after a position.
+    pub(crate) fn goes_straight(&self, pos: Pos) -> bool
+        ensures { result ≡ straight_at (slice_get self.now.spots.items pos.0) }
+    {
+        match self.spots.get(pos.0 as usize) {
+            Some(spot) => spot.taken().goes_straight(),
+            None => false,
         }
     }
 

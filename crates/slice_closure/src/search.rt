@@ -18,7 +18,8 @@ ghost use Rattle.slice_closure.specs.Flow.{touch_at, ways_to};
 ghost use Rattle.slice_closure.specs.declared.items.Item.{Item};
 ghost use Rattle.slice_closure.specs.Items.{IsItem, Numbered, item_number, loc_number};
 ghost use Rattle.slice_closure.specs.Next as spec;
-ghost use Rattle.slice_closure.specs.NextLaws.{next_stays};
+ghost use Rattle.slice_closure.specs.Runs as runs;
+ghost use Rattle.slice_closure.specs.NextLaws.{short_stays};
 
 use crate::items::{Item, Numbering};
 use crate::spot::{Came, Taken, Touch};
@@ -151,6 +152,7 @@ impl Closing<'_> {
         let places = self.tables.names.operands(pos);
         match self.tables.flow.taken(pos) {
             Some(Taken::All) => places,
+            Some(Taken::Test) => places,
             Some(Taken::Last) => &places[places.len().saturating_sub(1)..],
             _ => &[],
         }
@@ -389,24 +391,74 @@ impl Closing<'_> {
         }
     }
 
+    /// The position before another, where the walk came from it and nothing else leads to the other, which leads to one point alone, and it leaves a location
+    /// alone: so each stretch is gone back along once for a location.
+    fn back_at(&self, loc: Loc, pos: Pos) -> Option<Pos>
+        ensures { result ≡ runs.back_at self.now.tables loc pos.0 }
+    {
+        let flow = self.tables.flow;
+        if !flow.goes_straight(pos) {
+            return None;
+        }
+        if !flow.before(Node::At(pos)).is_empty() {
+            return None;
+        }
+        let Came::After(Node::At(before)) = flow.came(Node::At(pos)) else {
+            return None;
+        };
+        if before.0 < pos.0 && flow.is_quiet(before, loc) {
+            Some(before)
+        } else {
+            None
+        }
+    }
+
+    /// Back from a position as far as that goes on.
+    fn back(&self, loc: Loc, pos: Pos) -> Pos
+        ensures { result.0 ≡ runs.settled (pos.0 + 1) self.now.tables loc pos.0 }
+    {
+        let mut here = pos;
+        while let Some(before) = self.back_at(loc, here) {
+            here = before;
+        }
+        here
+    }
+
+    /// Where a location that is needed at a point is searched on from: the beginning of the stretch that leaves it alone.
+    fn settled(&self, loc: Loc, point: Point) -> Point
+        ensures { result ≡ runs.back self.now.tables loc point }
+    {
+        match point {
+            Point::At(pos) => {
+                if self.tables.flow.is_quiet(pos, loc) {
+                    Point::At(self.back(loc, pos))
+                } else {
+                    point
+                }
+            }
+            Point::Join(_) => point,
+            Point::Exit => point,
+        }
+    }
+
     /// On to a point before one at which a location is needed.
     fn passed(&self, loc: Loc, point: Point) -> Item
         requires node { number point < self.now.numbering.nodes }
         requires loc { loc_number loc < self.now.numbering.locs }
-        ensures exact { (j : Item) → spec.Passes self.now.tables loc point j ↔ (j ≡ result) }
+        ensures exact { (j : Item) → runs.Lands self.now.tables loc point j ↔ (j ≡ result) }
         ensures item { IsItem self.now.numbering.nodes self.now.numbering.locs result }
     {
         if self.writes(point, loc) {
             self.written(loc, point)
         } else {
-            Item::Needs(loc, point)
+            Item::Needs(loc, self.settled(loc, point))
         }
     }
 
     fn push_earlier(&self, loc: Loc, point: Point, next: &mut Vec<usize>) -> Result<(), NoMemory>
         requires node { number point < self.now.numbering.nodes }
         requires loc { loc_number loc < self.now.numbering.locs }
-        ensures { IfOk result (λ _. Gains (Numbered self.now.numbering.nodes (spec.Passes self.now.tables loc point)) next.old.items next.new.items) }
+        ensures { IfOk result (λ _. Gains (Numbered self.now.numbering.nodes (runs.Lands self.now.tables loc point)) next.old.items next.new.items) }
     {
         let item = self.passed(loc, point);
         self.push(item, next)?;
@@ -416,7 +468,7 @@ impl Closing<'_> {
     /// On to the point after which the walk came to a point.
     fn push_came(&self, loc: Loc, point: Point, next: &mut Vec<usize>) -> Result<(), NoMemory>
         requires loc { loc_number loc < self.now.numbering.locs }
-        ensures { IfOk result (λ _. Gains (Numbered self.now.numbering.nodes (λ j. (b : Node) × (spec.Arrives self.now.tables point b × spec.Passes self.now.tables loc b j))) next.old.items next.new.items) }
+        ensures { IfOk result (λ _. Gains (Numbered self.now.numbering.nodes (λ j. (b : Node) × (spec.Arrives self.now.tables point b × runs.Lands self.now.tables loc b j))) next.old.items next.new.items) }
     {
         match self.tables.flow.came(point) {
             Came::After(earlier) => {
@@ -431,7 +483,7 @@ impl Closing<'_> {
     /// On to the points that lead to a point by branches and ends.
     fn push_ways(&self, loc: Loc, point: Point, next: &mut Vec<usize>) -> Result<(), NoMemory>
         requires loc { loc_number loc < self.now.numbering.locs }
-        ensures { IfOk result (λ _. Gains (Numbered self.now.numbering.nodes (spec.FromEach (ways_to self.now.tables.flow.now.before.items point) (spec.Passes self.now.tables loc))) next.old.items next.new.items) }
+        ensures { IfOk result (λ _. Gains (Numbered self.now.numbering.nodes (spec.FromEach (ways_to self.now.tables.flow.now.before.items point) (runs.Lands self.now.tables loc))) next.old.items next.new.items) }
     {
         for earlier in self.tables.flow.before(point) {
             self.push_earlier(loc, *earlier, next)?;
@@ -442,7 +494,7 @@ impl Closing<'_> {
     /// From a location that is needed at a point.
     fn push_before(&self, loc: Loc, point: Point, next: &mut Vec<usize>) -> Result<(), NoMemory>
         requires { loc_number loc < self.now.numbering.locs }
-        ensures { IfOk result (λ _. Gains (Numbered self.now.numbering.nodes (spec.Next self.now.tables (Item.Needs loc point))) next.old.items next.new.items) }
+        ensures { IfOk result (λ _. Gains (Numbered self.now.numbering.nodes (runs.Short self.now.tables (Item.Needs loc point))) next.old.items next.new.items) }
     {
         self.push_came(loc, point, next)?;
         self.push_ways(loc, point, next)?;
@@ -496,7 +548,7 @@ impl Closing<'_> {
 
     fn push_from(&self, item: Item, next: &mut Vec<usize>) -> Result<(), NoMemory>
         requires { IsItem self.now.numbering.nodes self.now.numbering.locs item }
-        ensures { IfOk result (λ _. Gains (Numbered self.now.numbering.nodes (spec.Next self.now.tables item)) next.old.items next.new.items) }
+        ensures { IfOk result (λ _. Gains (Numbered self.now.numbering.nodes (runs.Short self.now.tables item)) next.old.items next.new.items) }
     {
         match item {
             Item::Keeps(node) => {
@@ -522,7 +574,7 @@ impl Closing<'_> {
 impl Graph for Closing<'_> {
     ghost node_count = { λ closing. (2 * closing.numbering.locs + 2) * closing.numbering.nodes };
 
-    ghost leads = { λ closing. PackedEdge (IsItem closing.numbering.nodes closing.numbering.locs) (item_number closing.numbering.nodes) (spec.Next closing.tables) };
+    ghost leads = { λ closing. PackedEdge (IsItem closing.numbering.nodes closing.numbering.locs) (item_number closing.numbering.nodes) (runs.Short closing.tables) };
 
     fn node_count(&self) -> usize {
         self.numbering.count()
@@ -534,5 +586,5 @@ impl Graph for Closing<'_> {
         Ok(())
     }
 
-    ghost stays = { λ closing x y lt e. next_stays closing.numbering.nodes closing.numbering.locs closing.tables closing.fits x y e };
+    ghost stays = { λ closing x y lt e. short_stays closing.numbering.nodes closing.numbering.locs closing.tables closing.fits x y e };
 }

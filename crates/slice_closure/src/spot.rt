@@ -2,8 +2,10 @@
 
 ghost use Rattle.std.specs.Prelude.{◌≡◌, ◌↔◌, IsTrue, Some};
 ghost use Rattle.slice_closure.specs.Flow as spec;
+ghost use Rattle.slice_closure.specs.Runs.{goes_straight, is_quiet};
 ghost use Rattle.slice_closure.specs.Takens.{taken_by};
 
+use crate::items::loc_number;
 use called_rows::Whom;
 use wasm_types::{Instr, Loc, Point};
 
@@ -28,12 +30,14 @@ pub(crate) enum Touch {
     Calls(Whom),
 }
 
-/// Which of its operands a kept instruction takes: all, the last alone, or nothing. A branch doesn't take the values that it carries.
+/// Which of its operands a kept instruction takes: all, the last alone, or nothing. A branch doesn't take the values that it carries. An if takes what it
+/// tests, and has a word of its own since it leads to two points.
 #[derive(Clone, Copy, Drop)]
 pub(crate) enum Taken {
     All,
     Last,
     Nothing,
+    Test,
 }
 
 /// A position.
@@ -119,5 +123,29 @@ impl Touch {
             Some(written) => is_same(written, loc),
             None => false,
         }
+    }
+    /// Whether it neither reads nor writes a location, or checks it. Of a call that isn't told.
+    pub(crate) fn is_quiet(self, loc: Loc) -> bool
+        ensures { result ≡ is_quiet self loc }
+    {
+        let number = loc_number(loc);
+        match self {
+            Touch::Nothing => true,
+            Touch::Reads(other) => loc_number(other) != number,
+            Touch::Writes(other) => loc_number(other) != number,
+            Touch::Changes(other) => loc_number(other) != number,
+            Touch::Loads => 1 < number,
+            Touch::Stores => 1 < number,
+            Touch::Calls(_) => false,
+        }
+    }
+}
+
+impl Taken {
+    /// Whether one point alone comes after what takes its operands so.
+    pub(crate) fn goes_straight(self) -> bool
+        ensures { result ≡ goes_straight self }
+    {
+        matches!(self, Taken::All)
     }
 }

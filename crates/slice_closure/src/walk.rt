@@ -178,7 +178,7 @@ fn walk_instr(
         Instr::If(_, first, second) => {
             let pos = trail.here();
             let label = Point::Join(pos);
-            trail.pass(came, Touch::Nothing, Taken::All)?;
+            trail.pass(came, Touch::Nothing, Taken::Test)?;
             let inside = through(came, Point::At(pos));
             walk_inner(trail, labels, label, first.as_slice(), inside, label)?;
             walk_inner(trail, labels, label, second.as_slice(), inside, label)?;

@@ -8,7 +8,7 @@ use Rattle.wasm_types.specs.Nodes.{At, Join}
 use Rattle.wasm_types.proofs.CodeLemmas.{plain_is, count-next, code-next}
 use Rattle.block_cfg.proofs.WalkLemmas.{block_count, loop_count, if_count, plain_count}
 use Rattle.slice_closure.specs.declared.spot.Came.{Came}
-use Rattle.slice_closure.specs.Flow.{leaves, where_came, Walks, WalksInner}
+use Rattle.slice_closure.specs.Flow.{holder, fork, leaves, where_came, Walks, WalksInner}
 use Rattle.slice_closure.proofs.Walking.{block_walks, loop_walks, if_walks, plain_walks, inner_longer, passed_longer, walks_longer, walks_none, leaves_next}
 use Rattle.slice_closure.proofs.walk.+walk.Goals as goal
 
@@ -80,7 +80,7 @@ pub walk_instr-walk_inner-requires : goal.walk_instr-walk_inner-requires
 walk_instr-walk_inner-requires t c =
     let is : c.args.instr.now ≡ v.Block c.in-Block.field-0 c.as_slice.result.now = c.in-Block.is ∙ ap (λ z. v.Block c.in-Block.field-0 z) (sym c.as_slice.ensures) in
     let n = block_count c.args.instr.now c.in-Block.field-0 c.as_slice.result.now is in
-    let longer = passed_longer c.args.came c.args.trail.now.spots.items c.pass.new.self.spots.items c.in_ok-pass-in-Block.ensures.spots in
+    let longer = passed_longer (holder c.args.came) c.args.trail.now.spots.items c.pass.new.self.spots.items c.in_ok-pass-in-Block.ensures.spots in
     (omega arith, omega (arith, c.requires))
 
 pub walk_instr-returns-in_ok-walk_inner-in-Block-clause-found : goal.walk_instr-returns-in_ok-walk_inner-in-Block-clause-found
@@ -92,8 +92,8 @@ walk_instr-returns-in_ok-walk_inner-in-Block-clause-found t c =
     let walked = subst (λ (z : Came). WalksInner (Join p ∷ labels) z (code_of xs) (Join p) c.pass.new.self c.walk_inner.new.trail) c.through-inside.ensures
     c.in_ok-walk_inner-in-Block.ensures.found in
     subst (λ (z : Came). Walks labels c.args.came (onto c.args.instr.now done) c.args.trail.now c.walk_inner.new.trail z) (sym c.through.ensures)
-    (block_walks labels c.args.came c.args.trail.now c.pass.new.self p c.here-pos.ensures c.in_ok-pass-in-Block.ensures.spots c.in_ok-pass-in-Block.ensures.ways
-    c.args.instr.now c.in-Block.field-0 xs is c.walk_inner.new.trail walked)
+    (block_walks labels c.args.came (holder c.args.came) c.args.trail.now c.pass.new.self p c.here-pos.ensures c.in_ok-pass-in-Block.ensures.spots
+    c.in_ok-pass-in-Block.ensures.ways refl c.args.instr.now c.in-Block.field-0 xs is c.walk_inner.new.trail walked)
 
 pub walk_instr-here-pos-requires-in-Loop : goal.walk_instr-here-pos-requires-in-Loop
 walk_instr-here-pos-requires-in-Loop t c =
@@ -104,7 +104,7 @@ pub walk_instr-walk_inner-requires-in-Loop : goal.walk_instr-walk_inner-requires
 walk_instr-walk_inner-requires-in-Loop t c =
     let is : c.args.instr.now ≡ v.Loop c.in-Loop.field-0 c.as_slice-in-Loop.result.now = c.in-Loop.is ∙ ap (λ z. v.Loop c.in-Loop.field-0 z) (sym c.as_slice-in-Loop.ensures) in
     let n = loop_count c.args.instr.now c.in-Loop.field-0 c.as_slice-in-Loop.result.now is in
-    let longer = passed_longer c.args.came c.args.trail.now.spots.items c.pass-in-Loop.new.self.spots.items c.in_ok-pass-in-Loop.ensures.spots in
+    let longer = passed_longer (holder c.args.came) c.args.trail.now.spots.items c.pass-in-Loop.new.self.spots.items c.in_ok-pass-in-Loop.ensures.spots in
     (omega arith, omega (arith, c.requires))
 
 pub walk_instr-returns-in_ok-walk_inner-in-Loop-clause-found : goal.walk_instr-returns-in_ok-walk_inner-in-Loop-clause-found
@@ -116,8 +116,8 @@ walk_instr-returns-in_ok-walk_inner-in-Loop-clause-found t c =
     let walked = subst (λ (z : Came). WalksInner (At p ∷ labels) z (code_of xs) (Join p) c.pass-in-Loop.new.self c.walk_inner-in-Loop.new.trail) c.through-inside-in-Loop.ensures
     c.in_ok-walk_inner-in-Loop.ensures.found in
     subst (λ (z : Came). Walks labels c.args.came (onto c.args.instr.now done) c.args.trail.now c.walk_inner-in-Loop.new.trail z) (sym c.through-in-Loop.ensures)
-    (loop_walks labels c.args.came c.args.trail.now c.pass-in-Loop.new.self p c.here-pos-in-Loop.ensures c.in_ok-pass-in-Loop.ensures.spots c.in_ok-pass-in-Loop.ensures.ways
-    c.args.instr.now c.in-Loop.field-0 xs is c.walk_inner-in-Loop.new.trail walked)
+    (loop_walks labels c.args.came (holder c.args.came) c.args.trail.now c.pass-in-Loop.new.self p c.here-pos-in-Loop.ensures
+    c.in_ok-pass-in-Loop.ensures.spots c.in_ok-pass-in-Loop.ensures.ways refl c.args.instr.now c.in-Loop.field-0 xs is c.walk_inner-in-Loop.new.trail walked)
 
 pub walk_instr-here-pos-requires-in-If : goal.walk_instr-here-pos-requires-in-If
 walk_instr-here-pos-requires-in-If t c =
@@ -130,7 +130,7 @@ walk_instr-walk_inner-requires-in-If t c =
     let is : c.args.instr.now ≡ v.If c.in-If.field-0 xs c.in-If.second =
     c.in-If.is ∙ ap (λ (a : List Instr). v.If c.in-If.field-0 a c.in-If.second) (sym c.as_slice-in-If.ensures) in
     let n = if_count c.args.instr.now c.in-If.field-0 xs c.in-If.second is in
-    let longer = passed_longer c.args.came c.args.trail.now.spots.items c.pass-in-If.new.self.spots.items c.in_ok-pass-in-If.ensures.spots in
+    let longer = passed_longer (fork c.args.came) c.args.trail.now.spots.items c.pass-in-If.new.self.spots.items c.in_ok-pass-in-If.ensures.spots in
     (omega arith, omega (arith, c.requires))
 
 pub walk_instr-walk_inner-requires-in-If-2 : goal.walk_instr-walk_inner-requires-in-If-2
@@ -140,7 +140,7 @@ walk_instr-walk_inner-requires-in-If-2 t c =
     let is : c.args.instr.now ≡ v.If c.in-If.field-0 xs ys =
     c.in-If.is ∙ ap₂ (λ (a b : List Instr). v.If c.in-If.field-0 a b) (sym c.as_slice-in-If.ensures) (sym c.as_slice-in-If-2.ensures) in
     let n = if_count c.args.instr.now c.in-If.field-0 xs ys is in
-    let longer = passed_longer c.args.came c.args.trail.now.spots.items c.pass-in-If.new.self.spots.items c.in_ok-pass-in-If.ensures.spots in
+    let longer = passed_longer (fork c.args.came) c.args.trail.now.spots.items c.pass-in-If.new.self.spots.items c.in_ok-pass-in-If.ensures.spots in
     let more = inner_longer _ c.through-inside-in-If.result (code_of xs) _ c.pass-in-If.new.self c.walk_inner-in-If.new.trail
     c.in_ok-walk_inner-in-If.ensures.found in
     (omega arith, omega (arith, c.requires))
@@ -162,5 +162,5 @@ walk_instr-returns-in_ok-walk_inner-in-If-2-clause-found t c =
     (subst (λ (ls : List Node). WalksInner (Join p ∷ reverse ls) c.through-inside-in-If.result (code_of ys) (Join p) half new)
     c.in_ok-walk_inner-in-If.ensures.labels c.in_ok-walk_inner-in-If-2.ensures.found) in
     subst (λ (z : Came). Walks labels c.args.came (onto c.args.instr.now done) c.args.trail.now new z) (sym c.through-in-If.ensures)
-    (if_walks labels c.args.came c.args.trail.now mid p c.here-pos-in-If.ensures c.in_ok-pass-in-If.ensures.spots c.in_ok-pass-in-If.ensures.ways
-    c.args.instr.now c.in-If.field-0 xs ys is half new first second)
+    (if_walks labels c.args.came (fork c.args.came) c.args.trail.now mid p c.here-pos-in-If.ensures c.in_ok-pass-in-If.ensures.spots
+    c.in_ok-pass-in-If.ensures.ways refl c.args.instr.now c.in-If.field-0 xs ys is half new first second)
