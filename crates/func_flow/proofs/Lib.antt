@@ -6,7 +6,6 @@ pub mod FormKinds
 pub mod Exact
 pub mod Forward
 pub mod RootLemmas
-pub mod Passing
 pub mod RunLemmas
 pub mod Searching
 pub mod Right

@@ -30,7 +30,7 @@ use Rattle.func_flow.specs.Items.{node_of}
 use Rattle.func_flow.specs.Next.{AreMarked, whom_at, WritesAs, WrittenAt, Passes, Next}
 use Rattle.func_flow.specs.Runs.{IsLone, GoesOn, IsRun, start_of, AreStarts, is_inner, starts_for, writers_in, IsInOrder, AreRuns, AreQuiet, join_only, entry_at, SettledFrom}
 use Rattle.func_flow.specs.Runs.{Settled, Lands, Short}
-use Rattle.func_flow.proofs.Passing.{Follows, here, onward, short_reached}
+use Rattle.slice_closure.proofs.Passing.{Follows, here, onward, short_reached}
 use Rattle.func_flow.proofs.Pushes.{writes_is, written_there, join_apart, on_point}
 
 -- ---- runs in order
