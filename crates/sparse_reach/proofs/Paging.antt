@@ -1,14 +1,11 @@
 -- Pages as one list.
-use Rattle.std.proofs.Common.{◌≡◌, ℕ, zero, suc, ◌+◌, ◌-◌, ◌*◌, ◌/◌, ◌%◌, ◌^◌, ◌<◌, ◌≤◌, List, [], ◌∷◌, ◌++◌, Vec, Global, Bool, true, false, not, nat_eq, IsTrue, length, get_or, set, replicate, take, sum, bit_or, if◌then◌else◌, refl, sym, ◌∙◌, ap, inl, inr, ⊎_elim, arith, length-append, append_assoc, append-nil}
+use Rattle.std.proofs.Common.{◌≡◌, ℕ, zero, suc, ◌+◌, ◌-◌, ◌*◌, ◌/◌, ◌%◌, ◌<◌, ◌≤◌, List, [], ◌∷◌, ◌++◌, Vec, Global, Bool, true, false, length, get_or, set, replicate, take, bit_or, if◌then◌else◌, refl, sym, ◌∙◌, ap, inl, inr, arith, length-append, append_assoc, append-nil}
 use Rattle.std.proofs.Math.ListN.{length-replicate}
 use Rattle.std.proofs.Math.Seq.{take_all}
 use Rattle.std.specs.List.{All}
-use Rattle.std.proofs.lemmas.Bool.{cases_lt, cases_Bool}
+use Rattle.std.proofs.lemmas.Bool.{cases_lt}
 use Rattle.std.proofs.lemmas.List.{get_or_append_left, get_or-append_right, set-append_left, set-append_right, get_or-replicate, get_or_past, get_or_read}
 use Rattle.std.proofs.lemmas.List.Elements.{All-append, All-replicate, All-tail, All-head}
-use Rattle.std.proofs.lemmas.List.Sums.{sum_by-le}
-use Rattle.std.proofs.lemmas.Bool.Decides.{Decides-eqb}
-use Rattle.worklist.proofs.Gaining.{differs, sum_rises}
 use Rattle.sparse_reach.specs.Pages.{filled, flat, IsPage}
 
 pub length_filled : (xs : List ℕ) → length xs ≤ 512 → length (filled xs) ≡ 512
@@ -95,37 +92,6 @@ same_flat [] k d new lt e = absurd (omega arith)
 same_flat (page ∷ pages) zero d new lt e = ap (λ xs. xs ++ flat pages) e
 same_flat (page ∷ pages) (suc k) d new lt e = ap (λ xs. filled page.items ++ xs) (same_flat pages k d new (omega arith) e)
 
-flat_below : (pages : List (Vec ℕ Global)) → All IsPage pages → All (λ w. w < 2 ^ 64) (flat pages)
-flat_below [] ok = λ k d lt. absurd (omega arith)
-flat_below (page ∷ pages) ok =
-    All-append (λ (w : ℕ). w < 2 ^ 64) (filled page.items) (flat pages)
-    (All-append (λ (w : ℕ). w < 2 ^ 64) page.items (replicate (512 - length page.items) 0) (All-head IsPage page pages ok).1
-    (All-replicate (λ (w : ℕ). w < 2 ^ 64) (512 - length page.items) 0 (omega arith)))
-    (flat_below pages (All-tail IsPage page pages ok))
-
-pub flat_bound : (pages : List (Vec ℕ Global)) → All IsPage pages → sum (flat pages) ≤ length (flat pages) * 2 ^ 64
-flat_bound pages ok =
-    sum_by-le (λ (x : ℕ). x) (2 ^ 64) (flat pages) (λ k d lt. let b : get_or (flat pages) k d < 2 ^ 64 = flat_below pages ok k d lt in omega arith)
-
-set_itself : (xs : List ℕ) (i : ℕ) → i < length xs → set xs i (get_or xs i 0) ≡ xs
-set_itself [] i lt = refl
-set_itself (x ∷ xs) zero lt = refl
-set_itself (x ∷ xs) (suc i) lt = ap (λ ys. x ∷ ys) (set_itself xs i (omega arith))
-
-pub grew_same : (xs : List ℕ) (i word : ℕ) (grew : Bool) → i < length xs → grew ≡ not (nat_eq (bit_or (get_or xs i 0) word) (get_or xs i 0)) → grew ≡ false
-    → set xs i (bit_or (get_or xs i 0) word) ≡ xs
-grew_same xs i word grew lt is none =
-    let old = get_or xs i 0 in
-    let equal : bit_or old word ≡ old = ⊎_elim
-    (λ yes'. (Decides-eqb (bit_or old word) old).0 yes')
-    (λ no'. let a : not (nat_eq (bit_or old word) old) ≡ true = rw no' refl in absurd (cc))
-    (cases_Bool (nat_eq (bit_or old word) old)) in
-    rw equal (set_itself xs i lt)
-
-pub grew_rose : (xs : List ℕ) (i word : ℕ) (grew : Bool) → i < length xs → grew ≡ not (nat_eq (bit_or (get_or xs i 0) word) (get_or xs i 0)) → IsTrue grew
-    → sum xs < sum (set xs i (bit_or (get_or xs i 0) word))
-grew_rose xs i word grew lt is t = sum_rises xs i word lt (differs (bit_or (get_or xs i 0) word) (get_or xs i 0) (sym is ∙ t))
-
 pub all_zero : (pages : List (Vec ℕ Global)) → All (λ page. page.items ≡ []) pages → All (λ w. w ≡ 0) (flat pages)
 all_zero [] none = λ k d lt. absurd (omega arith)
 all_zero (page ∷ pages) none =
@@ -178,10 +144,6 @@ module _ (pages : List (Vec ℕ Global)) (ok : All IsPage pages) (at word : ℕ)
 
   pub left_so : filled new.items ≡ filled page.items → flat (set pages (at / 512) new) ≡ flat pages
   left_so e = word_same pages ok at lt page new (e ∙ ap (λ (p : Vec ℕ Global). filled p.items) is)
-
-  pub grew_is : (grew : Bool) → grew ≡ not (nat_eq (bit_or (get_or (filled page.items) (at % 512) 0) word) (get_or (filled page.items) (at % 512) 0))
-      → grew ≡ not (nat_eq (bit_or (get_or (flat pages) at 0) word) (get_or (flat pages) at 0))
-  grew_is grew g = g ∙ ap (λ w. not (nat_eq (bit_or w word) w)) old_word
 
   page_short : length page.items ≤ 512
   page_short =

@@ -1,8 +1,10 @@
-//! Reachability over very many nodes, of which few are met: tables and marks take memory only where they are written.
+//! Reachability over very many nodes, of which few are met: tables and marks take memory only for those.
 #![tactic(auto)]
 
 mod labels;
 mod marks;
+mod met;
+mod rounds;
 mod search;
 mod table;
 mod words;

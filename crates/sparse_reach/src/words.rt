@@ -1,6 +1,6 @@
 //! A list of words, all zero at first, whose memory is taken a page at a time where a word is written.
 
-ghost use Rattle.std.specs.Prelude.{◌≡◌, ℕ, ◌+◌, ◌*◌, ◌/◌, ◌%◌, ◌^◌, ◌<◌, ◌≤◌, List, IfOk, IfErr, IsTrue, length, vec_len, sum, false, not, nat_eq, slice_index, slice_set, bit_or};
+ghost use Rattle.std.specs.Prelude.{◌≡◌, ℕ, ◌/◌, ◌%◌, ◌^◌, ◌<◌, ◌≤◌, List, IfOk, IfErr, length, vec_len, slice_index, slice_set, bit_or};
 ghost use Rattle.std.specs.List.{All};
 ghost use Rattle.sparse_reach.specs.Pages.{filled, flat, IsPage};
 
@@ -37,20 +37,18 @@ fn fill(page: &mut Vec<u64>) -> Result<(), NoMemory>
     Ok(())
 }
 
-/// Sets a word's bits in a page; true where one was new.
-fn raise_in(page: &mut Vec<u64>, at: usize, word: u64) -> Result<bool, NoMemory>
+/// Sets a word's bits in a page.
+fn raise_in(page: &mut Vec<u64>, at: usize, word: u64) -> Result<(), NoMemory>
     requires page { IsPage page.old }
     requires at { at < 512 }
     ensures page { IsPage page.new }
     ensures kept { IfErr result (λ _. filled page.new.items ≡ filled page.old.items) }
     ensures set { IfOk result (λ _. filled page.new.items ≡ slice_set (filled page.old.items) at (bit_or (slice_index (filled page.old.items) at) word)) }
-    ensures grew { IfOk result (λ grew. grew ≡ not (nat_eq (bit_or (slice_index (filled page.old.items) at) word) (slice_index (filled page.old.items) at))) }
 {
     fill(page)?;
-    let old = page[at];
-    let new = old | word;
+    let new = page[at] | word;
     page[at] = new;
-    Ok(new != old)
+    Ok(())
 }
 
 impl Words {
@@ -76,22 +74,13 @@ impl Words {
         if place < page.len() { page[place] } else { 0 }
     }
 
-    /// Sets a word's bits; true where one was new.
-    pub fn raise(&mut self, at: usize, word: u64) -> Result<bool, NoMemory>
+    /// Sets a word's bits.
+    pub fn raise(&mut self, at: usize, word: u64) -> Result<(), NoMemory>
         requires { at < length self.old }
         ensures length { length self.new ≡ length self.old }
         ensures set { IfOk result (λ _. self.new ≡ slice_set self.old at (bit_or (slice_index self.old at) word)) }
-        ensures same { IfOk result (λ grew. grew ≡ false → self.new ≡ self.old) }
-        ensures rose { IfOk result (λ grew. IsTrue grew → sum self.old < sum self.new) }
     {
-        let grew = raise_in(&mut self.pages[at / PAGE], at % PAGE, word)?;
-        Ok(grew)
-    }
-
-    /// It does nothing: what its clause says is known of any list of words.
-    pub fn bound(&self)
-        ensures { sum self.now ≤ length self.now * 2 ^ 64 }
-    {
-        let _pages = self.pages.len();
+        raise_in(&mut self.pages[at / PAGE], at % PAGE, word)?;
+        Ok(())
     }
 }
