@@ -9,38 +9,45 @@ use crate::place::{place_byte, place_front, place_indent, place_number};
 /// How many bytes are written for a number, of which only its digits count.
 pub(crate) const ROOM: usize = 16;
 
-/// All digits of a number but its last one, `tens` in decimal. Those of a number near it are mostly the same.
+/// All digits of a number but its last one, `tens` in decimal. Those of a number near it are mostly the same: of the ten from `first` on.
 #[derive(Clone, Copy)]
 pub(crate) struct Front {
     tens: u32,
+    first: u32,
     digits: [u8; ROOM],
     count: usize,
+    ghost begun: { first ≡ 10 * tens },
     ghost shown: { take count digits ≡ decimal tens },
     ghost few: { count ≤ 10 },
     ghost room: { length digits ≡ 16 },
 }
 
 impl Front {
-    /// The front digits of the numbers of so many tens.
-    pub(crate) fn of(tens: u32) -> Front
-        ensures { result.tens ≡ tens }
+    /// The front digits of a number. They are found anew at one number of ten, and so apart from what is inlined.
+    #[cold]
+    #[inline(never)]
+    pub(crate) fn of(number: u32) -> Front
+        ensures { result.tens ≡ number / 10 }
     {
+        let tens = number / 10;
         let mut digits = [b'0'; ROOM];
         let count = place_number(&mut digits, 0, tens);
         Front {
             tens,
+            first: 10 * tens,
             digits,
             count,
         }
     }
 
-    /// Turns to numbers of so many tens.
+    /// Turns to the front digits of a number.
     #[inline(always)]
-    fn turn(&mut self, tens: u32)
-        ensures { self.new.tens ≡ tens }
+    fn turn(&mut self, number: u32)
+        requires { 10 ≤ number }
+        ensures { self.new.tens ≡ number / 10 }
     {
-        if self.tens != tens {
-            *self = Front::of(tens);
+        if number.wrapping_sub(self.first) >= 10 {
+            *self = Front::of(number);
         }
     }
 }
@@ -54,7 +61,7 @@ fn place_by(buf: &mut [u8], at: usize, front: &Front, number: u32) -> usize
     ensures { Placed buf.old buf.new at (decimal number) result }
 {
     place_front::<ROOM>(buf, at, &front.digits);
-    place_byte(buf, at + front.count, b'0' + (number % 10) as u8)
+    place_byte(buf, at + front.count, b'0' + (number - front.first) as u8)
 }
 
 /// A number, by the front digits of the one before it.
@@ -67,7 +74,7 @@ pub(crate) fn place_next(buf: &mut [u8], at: usize, front: &mut Front, number: u
     if number < 10 {
         return place_byte(buf, at, b'0' + number as u8);
     }
-    front.turn(number / 10);
+    front.turn(number);
     place_by(buf, at, front, number)
 }
 
