@@ -1,2 +1,3 @@
 pub mod Milled
 mod Worked
+pub mod Last

@@ -39,7 +39,7 @@ use Rattle.module_mill.specs.Mill.{below, func_type, counter, adds, stores, lap,
 some_same : {A : Type 0} {x y : A} → Some x ≡ Some y → x ≡ y
 some_same e = cc
 
-length-below : {A : Type 0} (f : ℕ → A) (n : ℕ) → length (below f n) ≡ n
+pub length-below : {A : Type 0} (f : ℕ → A) (n : ℕ) → length (below f n) ≡ n
 length-below f zero = refl
 length-below f (suc n) = omega (arith, length-append (below f n) (f n ∷ []), length-below f n)
 
@@ -49,14 +49,14 @@ below_or_last zero (suc n) lt = inl (omega arith)
 below_or_last (suc k) zero lt = absurd (omega arith)
 below_or_last (suc k) (suc n) lt = elim (below_or_last k n (omega arith)) [ inl h ↦ inl (omega arith) | inr e ↦ inr (ap suc e) ]
 
-get_below : {A : Type 0} (f : ℕ → A) (n k : ℕ) (d : A) → k < n → get_or (below f n) k d ≡ f k
+pub get_below : {A : Type 0} (f : ℕ → A) (n k : ℕ) (d : A) → k < n → get_or (below f n) k d ≡ f k
 get_below f zero k d lt = absurd (omega arith)
 get_below f (suc n) k d lt = elim (below_or_last k n lt) [
   | inl h ↦ get_or-append (below f n) (f n ∷ []) d k (omega (arith, length-below f n)) ∙ get_below f n k d h
   | inr e ↦ ap (λ i. get_or (below f n ++ f n ∷ []) i d) (e ∙ sym (length-below f n)) ∙ get_or-append_seam (below f n) (f n) [] d ∙ ap f (sym e)
 ]
 
-at_below : {A : Type 0} (f : ℕ → A) (n k : ℕ) → k < n → slice_get (below f n) k ≡ Some (f k)
+pub at_below : {A : Type 0} (f : ℕ → A) (n k : ℕ) → k < n → slice_get (below f n) k ≡ Some (f k)
 at_below f n k lt = slice_get-get_or (below f n) k (f k) (omega (arith, length-below f n)) ∙ ap Some (get_below f n k (f k) lt)
 
 -- what is found among them
@@ -85,7 +85,7 @@ either P true x y h g = h
 either P false x y h g = g
 
 -- the counting as a tree
-abbrev counting : ℕ → Code → Code
+abbrev pub counting : ℕ → Code → Code
 counting k rest = one (I32Const k) (one (LocalSet 2) (block None (repeat None (code_of lap) done) rest))
 
 counts_code : (k : ℕ) (rest : List Instr) → counting k (code_of rest) ≡ code_of (counts k ++ rest)
@@ -110,7 +110,7 @@ module _ (n : ℕ) (P Q R : Code → Type 0) (start : P (code_of sum)) (keep : (
       either Rest (k % 3 == 0) (adds (k % 4)) (if k % 3 == 1 then stores else counts k) (from_adds (k % 4) rest (omega arith) h)
       (either Rest (k % 3 == 1) stores (counts k) (from_stores rest h) (subst R (counts_code k rest) (from_counts k (code_of rest) lt h)))
 
-  of_code : (k : ℕ) → k < n → R (code_of (code k))
+  pub of_code : (k : ℕ) → k < n → R (code_of (code k))
   of_code k lt = subst (λ (is : List Instr). R (code_of is)) (sym (append_assoc (work k) (calls k) sum)) (from_work k (calls k ++ sum) lt (from_calls k lt))
 
 -- ---- types
@@ -129,7 +129,7 @@ module _ (n : ℕ) where
   global_at (suc (suc (suc zero))) lt = refl
   global_at (suc (suc (suc (suc c)))) lt = absurd (omega arith)
 
-  type_at : (j : ℕ) → j < n → type_of_func (mill n) j ≡ Some func_type
+  pub type_at : (j : ℕ) → j < n → type_of_func (mill n) j ≡ Some func_type
   type_at j lt = ap (type_numbered (func_type ∷ [])) (at_replicate n j 0 lt)
 
   sum_typed : Typed (code_of sum)
