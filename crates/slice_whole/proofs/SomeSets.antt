@@ -169,8 +169,11 @@ module _ (cs : Callees) (t : ℕ) (c : Marked) where
 
   -- so some test tells what is kept, and one what is kept for its value
   module _ (B : Bounds) (R : CallRows) where
+    pub kept_small : (n : Node) → KeptNode B R S E n → number n < most
+    kept_small n kept = live_small n (live_item B R (Makes n Done) kept)
+
     pub some_kept : NotRefuted ((K : Node → Bool) × Tells K (KeptNode B R S E))
-    some_kept = some_test (KeptNode B R S E) most (λ n kept. live_small n (live_item B R (Makes n Done) kept))
+    some_kept = some_test (KeptNode B R S E) most kept_small
 
     pub some_makers : NotRefuted ((M : Node → Bool) × Tells M (KeptMaker B R S E))
     some_makers = some_test (KeptMaker B R S E) most (λ n kept. live_small n (live_item B R (Makes n Ret) kept))
