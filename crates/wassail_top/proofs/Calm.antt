@@ -8,16 +8,17 @@ use Rattle.module_run.specs.Runs.{RunEnds}
 use Rattle.module_run.specs.Runs.RunEnds.{ElemOut, DataOut, InStart, Ran}
 use Rattle.report_text.specs.declared.refusal.QueryRefusal.{QueryRefusal}
 use Rattle.report_text.specs.Listing.{listing}
+use Rattle.module_mill.specs.Mill.{mill}
 use Rattle.wasm_decode.specs.Decode.{Decodes}
 use Rattle.wasm_validate.specs.Admission.{Refuses}
 use Rattle.wassail_top.specs.Orders.{Order}
 use Rattle.wassail_top.specs.Orders.Order.{check, rewrite, list, summary, kept, slice, run, trace}
-use Rattle.wassail_top.specs.Answers.{Answers, AnswersOrder, AnswersModule, AnswersAdmitted, IsDue, IsKeptAs, IsSlicedAs, IsSummaryOf, bytes_alone}
+use Rattle.wassail_top.specs.Answers.{Answers, AnswersMill, AnswersOrder, AnswersModule, AnswersAdmitted, IsDue, IsKeptAs, IsReportOf, IsSlicedAs, IsSummaryOf, bytes_alone}
 use Rattle.wassail_top.specs.Refusals.{Answer, unless_refused, why_no_code, why_not_decoded, why_not_admitted}
-use Rattle.wassail_top.specs.Queries.{positions_of, why_no_slice, why_no_summary, why_not_kept, why_not_run, why_not_traced}
+use Rattle.wassail_top.specs.Queries.{positions_of, why_no_slice, why_no_summary, why_not_kept, why_not_milled, why_not_run, why_not_traced}
 use Rattle.wassail_top.specs.RunAnswers.{AnswersUnless, IsRunAs, ended_status, run_status}
 use Rattle.wassail_top.specs.Statuses.{status_code}
-use Rattle.wassail_top.specs.Words.{order_of}
+use Rattle.wassail_top.specs.Words.{IsNoCommand, mill_of, order_of}
 use Rattle.wassail_top.specs.Outcome.{ReadFailed, GaveAll}
 use Rattle.wassail_top.proofs.Causes.{module_status}
 
@@ -83,23 +84,30 @@ calm_order order old new answer (inr (bytes, all, short, inl bad)) =
     calm_at answer 1 (module_status (λ end. Decodes bytes (Err end)) why_not_decoded answer bad) (inl (omega arith))
 calm_order order old new answer (inr (bytes, all, short, inr (m, spells, h))) = calm_module order m answer h
 
+calm_mill : (words : List (List ℕ)) (old new : Option (List ℕ)) (answer : Answer) → AnswersMill words old new answer → IsCalm answer.status
+calm_mill words old new answer (n, named, same, h) =
+    calm_unless_told (why_not_milled n) (IsReportOf (mill n)) (λ a report. ap (λ (x : Answer). x.status) report.2) answer h
+
 -- no answer tells of a fault
 not_fault : (words : List (List ℕ)) (old new : Option (List ℕ)) (answer : Answer) → Answers words old new answer → answer.status ≢ 3
 not_fault words old new answer (inl refused) = λ e. let two : answer.status ≡ 2 = ap (λ (a : Answer). a.status) refused.1 in omega arith
-not_fault words old new answer (inr (order, named, h)) = (calm_order order old new answer h).no_read_fault
+not_fault words old new answer (inr (inl (order, named, h))) = (calm_order order old new answer h).no_read_fault
+not_fault words old new answer (inr (inr milled)) = (calm_mill words old new answer milled).no_read_fault
 
 -- none tells that a write failed
 pub not_write_fault : (words : List (List ℕ)) (old new : Option (List ℕ)) (before now : ℕ) (answer : Answer) → IsDue words old new before now answer
     → answer.status ≢ 4
 not_write_fault words old new before now answer (inl (inl refused)) = λ e. let two : answer.status ≡ 2 = ap (λ (a : Answer). a.status) refused.1 in omega arith
-not_write_fault words old new before now answer (inl (inr (order, named, h))) = (calm_order order old new answer h).no_write_fault
+not_write_fault words old new before now answer (inl (inr (inl (order, named, h)))) = (calm_order order old new answer h).no_write_fault
+not_write_fault words old new before now answer (inl (inr (inr milled))) = (calm_mill words old new answer milled).no_write_fault
 not_write_fault words old new before now answer (inr failed) = λ e. let three : answer.status ≡ 3 = ap (λ (a : Answer). a.status) failed.3 in omega arith
 
 -- none tells that an allocation was refused
 pub not_memory : (words : List (List ℕ)) (old new : Option (List ℕ)) (before now : ℕ) (answer : Answer) → IsDue words old new before now answer
     → answer.status ≢ 5
 not_memory words old new before now answer (inl (inl refused)) = λ e. let two : answer.status ≡ 2 = ap (λ (a : Answer). a.status) refused.1 in omega arith
-not_memory words old new before now answer (inl (inr (order, named, h))) = (calm_order order old new answer h).memory
+not_memory words old new before now answer (inl (inr (inl (order, named, h)))) = (calm_order order old new answer h).memory
+not_memory words old new before now answer (inl (inr (inr milled))) = (calm_mill words old new answer milled).memory
 not_memory words old new before now answer (inr failed) = λ e. let three : answer.status ≡ 3 = ap (λ (a : Answer). a.status) failed.3 in omega arith
 
 -- where the status is 3, a read failed
@@ -112,14 +120,19 @@ read_failed words old new before now x y z w answer (inr (order, named, failed, 
 
 -- words that are no command have one answer
 pub refused_words : (words : List (List ℕ)) (old new : Option (List ℕ)) (before now : ℕ) (answer : Answer)
-    → IsDue words old new before now answer → order_of words ≡ None → answer.status ≡ 2
+    → IsDue words old new before now answer → IsNoCommand words → answer.status ≡ 2
 refused_words words old new before now answer (inl (inl h)) none = ap (λ (a : Answer). a.status) h.1
-refused_words words old new before now answer (inl (inr (order, named, h))) none = let some : order_of words ≡ Some order = named in absurd cc
-refused_words words old new before now answer (inr failed) none = let some : order_of words ≡ Some failed.0 = failed.1 in absurd cc
+refused_words words old new before now answer (inl (inr (inl (order, named, h)))) none =
+    let no : order_of words ≡ None = none.0 in let some : order_of words ≡ Some order = named in absurd cc
+refused_words words old new before now answer (inl (inr (inr milled))) none =
+    let no : mill_of words ≡ None = none.1 in let some : mill_of words ≡ Some milled.0 = milled.1 in absurd cc
+refused_words words old new before now answer (inr failed) none =
+    let no : order_of words ≡ None = none.0 in let some : order_of words ≡ Some failed.0 = failed.1 in absurd cc
 
 pub only_refused_words : (words : List (List ℕ)) (old new : Option (List ℕ)) (before now : ℕ) (answer : Answer)
-    → IsDue words old new before now answer → answer.status ≡ 2 → order_of words ≡ None
+    → IsDue words old new before now answer → answer.status ≡ 2 → IsNoCommand words
 only_refused_words words old new before now answer (inl (inl h)) e = h.0
-only_refused_words words old new before now answer (inl (inr (order, named, h))) e = absurd ((calm_order order old new answer h).known e)
+only_refused_words words old new before now answer (inl (inr (inl (order, named, h)))) e = absurd ((calm_order order old new answer h).known e)
+only_refused_words words old new before now answer (inl (inr (inr milled))) e = absurd ((calm_mill words old new answer milled).known e)
 only_refused_words words old new before now answer (inr failed) e =
     let three : answer.status ≡ 3 = ap (λ (a : Answer). a.status) failed.3 in absurd (omega arith)

@@ -6,17 +6,19 @@ use Rattle.outside_io.specs.Causes.{Rose}
 use Rattle.report_text.specs.Listing.{listing}
 use Rattle.wasm_types.specs.declared.module.Module.{Module}
 use Rattle.text_laws.proofs.ModuleLemmas.{one_module}
+use Rattle.module_mill.specs.Mill.{mill}
 use Rattle.wasm_decode.specs.Decode.{Decodes}
 use Rattle.wasm_validate.specs.Admission.{IsAdmitted}
-use Rattle.wassail_top.specs.Answers.{AnswersOrder, AnswersBytes, AnswersModule, AnswersAdmitted, HasStatus, IsDue, IsKeptAs, IsSlicedAs, IsSummaryOf, IsTaken, bytes_alone, most_bytes}
+use Rattle.wassail_top.specs.Answers.{AnswersOrder, AnswersBytes, AnswersModule, AnswersAdmitted, HasStatus, IsDue, IsKeptAs, IsReportOf, IsSlicedAs, IsSummaryOf, IsTaken, bytes_alone, most_bytes}
 use Rattle.wassail_top.specs.Orders.{Order}
 use Rattle.wassail_top.specs.Orders.Order.{check, rewrite, list, summary, kept, slice, run, trace}
 use Rattle.wassail_top.specs.Refusals.{Answer, unless_refused}
-use Rattle.wassail_top.specs.Queries.{positions_of, why_not_run, why_not_traced}
+use Rattle.wassail_top.specs.Queries.{positions_of, why_not_milled, why_not_run, why_not_traced}
 use Rattle.wassail_top.specs.RunAnswers.{AnswersUnless}
-use Rattle.wassail_top.specs.Words.{order_of}
+use Rattle.wassail_top.specs.Words.{mill_of, order_of}
 use Rattle.wassail_top.proofs.OneAdmission.{admitted_not_refused}
 use Rattle.wassail_top.proofs.OneDecoding.{decoded_not_refused}
+use Rattle.wassail_top.proofs.MillWords.{not_both}
 use Rattle.wassail_top.proofs.Reading.{all_taken, not_long}
 use Rattle.wassail_top.proofs.RunLemmas.{status_of_run}
 
@@ -58,8 +60,10 @@ known : (words : List (List ℕ)) (order : Order) (bytes : List ℕ) (m : Module
     → order_of words ≡ Some order → IsTaken order m → length bytes ≤ most_bytes → Decodes bytes (Ok m) → IsAdmitted m → ¬ Rose before now
     → IsDue words (Some bytes) new before now answer → HasStatus order m answer.status
 known words order bytes m new before now answer is takes short decodes admitted quiet (inl (inl refused)) =
-    let none : order_of words ≡ None = refused.0 in absurd cc
-known words order bytes m new before now answer is takes short decodes admitted quiet (inl (inr (other, named, h))) =
+    let none : order_of words ≡ None = refused.0.0 in absurd cc
+known words order bytes m new before now answer is takes short decodes admitted quiet (inl (inr (inr milled))) =
+    absurd (not_both words order milled.0 is milled.1)
+known words order bytes m new before now answer is takes short decodes admitted quiet (inl (inr (inl (other, named, h)))) =
     let same : order ≡ other = (let e : Some order ≡ Some other = sym is ∙ named in cc) in
     subst (λ o. HasStatus o m answer.status) (sym same) (of_order other bytes m new answer (subst (λ o. IsTaken o m) same takes) short decodes admitted h)
 known words order bytes m new before now answer is takes short decodes admitted quiet (inr failed) = absurd (quiet failed.2.rose)
@@ -69,3 +73,13 @@ pub succeeds : (words : List (List ℕ)) (order : Order) (bytes : List ℕ) (m :
     → IsDue words old new before now answer → HasStatus order m answer.status
 succeeds words order bytes m old new before now answer is left short decodes admitted takes quiet due =
     known words order bytes m new before now answer is takes short decodes admitted quiet (subst (λ o. IsDue words o new before now answer) left due)
+
+-- the report of a number in its range has status 0
+pub milled : (words : List (List ℕ)) (n : ℕ) (old new : Option (List ℕ)) (before now : ℕ) (answer : Answer)
+    → mill_of words ≡ Some n → why_not_milled n ≡ None → IsDue words old new before now answer → answer.status ≡ 0
+milled words n old new before now answer is takes (inl (inl refused)) = let none : mill_of words ≡ None = refused.0.1 in absurd cc
+milled words n old new before now answer is takes (inl (inr (inl (order, named, h)))) = absurd (not_both words order n named is)
+milled words n old new before now answer is takes (inl (inr (inr (k, named, same, h)))) =
+    let one : k ≡ n = (let e : Some k ≡ Some n = sym named ∙ is in cc) in
+    let report = subst (λ why. AnswersUnless why (IsReportOf (mill k)) answer) (ap why_not_milled one ∙ takes) h in ap (λ (a : Answer). a.status) report.2
+milled words n old new before now answer is takes (inr failed) = absurd (not_both words failed.0 n failed.1 is)

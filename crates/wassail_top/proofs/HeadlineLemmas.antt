@@ -17,6 +17,7 @@ use Rattle.wassail_top.specs.Outcome.{GaveAll}
 use Rattle.wassail_top.specs.Refusals.{Answer, why_not_decoded, why_not_admitted}
 use Rattle.wassail_top.specs.Queries.{why_no_slice, why_no_summary}
 use Rattle.wassail_top.specs.RunAnswers.{AnswersUnless}
+use Rattle.wassail_top.proofs.MillWords.{not_both}
 use Rattle.wassail_top.proofs.SliceQueries.{not_sliced_none}
 use Rattle.wassail_top.proofs.TableRows.{rows_agree, rows_return}
 use Rattle.slice_whole.proofs.Follows.{slice_follows}
@@ -56,7 +57,8 @@ reads : (words : List (List ℕ)) (order : Order) (left_old left_new : Option (L
     → order_of words ≡ Some order → IsDue words left_old left_new before now answer → answer.status ≡ 0 → Reads order left_old left_new answer
 reads words order left_old left_new before now answer named (inl (inl h)) zero =
     let two : answer.status ≡ 2 = ap (λ (a : Answer). a.status) h.1 in absurd (omega arith)
-reads words order left_old left_new before now answer named (inl (inr (other, named_so, h))) zero =
+reads words order left_old left_new before now answer named (inl (inr (inr milled))) zero = absurd (not_both words order milled.0 named milled.1)
+reads words order left_old left_new before now answer named (inl (inr (inl (other, named_so, h)))) zero =
     let same : other ≡ order = (let e : Some other ≡ Some order = sym named_so ∙ named in cc) in
     of_order order left_old left_new answer (subst (λ (o : Order). AnswersOrder o left_old left_new answer) same h) zero
 reads words order left_old left_new before now answer named (inr failed) zero =

@@ -1,5 +1,6 @@
 mod Causes
 mod Reading
+mod MillWords
 mod OneDecoding
 mod OneAdmission
 mod Complete
@@ -13,6 +14,9 @@ mod Firsts
 mod SomeAdmission
 mod SomeDecoding
 mod SomeSlice
+mod LargeModule
+mod SetSizes
+mod ReportAnswers
 mod SomeRows
 mod OneRows
 mod SummaryAnswers

@@ -4,21 +4,25 @@ use Rattle.std.specs.declared.option.Option.{Option}
 use Rattle.report_text.specs.declared.refusal.Refusal.TheVariants as refusal
 use Rattle.wasm_types.specs.declared.module.Module.{Module}
 use Rattle.text_laws.proofs.ModuleLemmas.{one_module}
+use Rattle.module_mill.specs.Mill.{mill}
 use Rattle.wasm_decode.specs.Decode.{Decodes}
 use Rattle.wasm_validate.specs.Admission.{IsAdmitted, Refuses}
-use Rattle.wassail_top.specs.Answers.{Answers, AnswersOrder, AnswersBytes, AnswersModule, AnswersAdmitted, most_bytes}
+use Rattle.wassail_top.specs.Answers.{Answers, AnswersOrder, AnswersBytes, AnswersModule, AnswersAdmitted, IsReportOf, most_bytes}
 use Rattle.wassail_top.specs.Orders.{Order}
 use Rattle.wassail_top.specs.Orders.Order.{check, rewrite, list, summary, kept, slice, run, trace}
 use Rattle.wassail_top.specs.Refusals.{Answer, why_not_decoded, why_not_admitted}
-use Rattle.wassail_top.specs.Queries.{positions_of, why_no_slice, why_not_kept, why_not_run, why_not_traced}
-use Rattle.wassail_top.specs.Words.{order_of}
+use Rattle.wassail_top.specs.Queries.{positions_of, why_no_slice, why_not_kept, why_not_milled, why_not_run, why_not_traced}
+use Rattle.wassail_top.specs.RunAnswers.{AnswersUnless}
+use Rattle.wassail_top.specs.Words.{mill_of, order_of}
 use Rattle.wassail_top.proofs.Causes.{one_refused}
 use Rattle.wassail_top.proofs.OneAdmission as admission
 use Rattle.wassail_top.proofs.OneAdmission.{admitted_not_refused}
 use Rattle.wassail_top.proofs.OneDecoding as decoding
 use Rattle.wassail_top.proofs.OneDecoding.{decoded_not_refused}
+use Rattle.wassail_top.proofs.MillWords.{not_both}
 use Rattle.wassail_top.proofs.OneSlice.{one_kept_answer, one_slice_answer}
 use Rattle.wassail_top.proofs.Reading.{all_taken, not_long}
+use Rattle.wassail_top.proofs.ReportAnswers.{one_milled}
 use Rattle.wassail_top.proofs.RunLemmas.{one_run_answer}
 use Rattle.wassail_top.proofs.SummaryAnswers.{one_summary_answer}
 
@@ -57,11 +61,22 @@ of_order order bytes x y a b (inr p) (inr q) =
 pub one_answer : (words : List (List ℕ)) (bytes : List ℕ) (x y : Option (List ℕ)) (a b : Answer)
     → Answers words (Some bytes) x a → Answers words (Some bytes) y b → a ≡ b
 one_answer words bytes x y a b (inl p) (inl q) = p.1 ∙ sym q.1
-one_answer words bytes x y a b (inl p) (inr q) =
-    let none : order_of words ≡ None = p.0 in let some : order_of words ≡ Some q.0 = q.1 in cc
-one_answer words bytes x y a b (inr p) (inl q) =
-    let none : order_of words ≡ None = q.0 in let some : order_of words ≡ Some p.0 = p.1 in cc
-one_answer words bytes x y a b (inr p) (inr q) =
+one_answer words bytes x y a b (inl p) (inr (inl q)) =
+    let none : order_of words ≡ None = p.0.0 in let some : order_of words ≡ Some q.0 = q.1 in cc
+one_answer words bytes x y a b (inl p) (inr (inr q)) =
+    let none : mill_of words ≡ None = p.0.1 in let some : mill_of words ≡ Some q.0 = q.1 in cc
+one_answer words bytes x y a b (inr (inl p)) (inl q) =
+    let none : order_of words ≡ None = q.0.0 in let some : order_of words ≡ Some p.0 = p.1 in cc
+one_answer words bytes x y a b (inr (inr p)) (inl q) =
+    let none : mill_of words ≡ None = q.0.1 in let some : mill_of words ≡ Some p.0 = p.1 in cc
+one_answer words bytes x y a b (inr (inl p)) (inr (inr q)) = absurd (not_both words p.0 q.0 p.1 q.1)
+one_answer words bytes x y a b (inr (inr p)) (inr (inl q)) = absurd (not_both words q.0 p.0 q.1 p.1)
+one_answer words bytes x y a b (inr (inr p)) (inr (inr q)) =
+    let first : mill_of words ≡ Some p.0 = p.1 in
+    let second : mill_of words ≡ Some q.0 = q.1 in
+    let same : p.0 ≡ q.0 = cc in
+    one_milled p.0 a b p.3 (subst (λ (n : ℕ). AnswersUnless (why_not_milled n) (IsReportOf (mill n)) b) (sym same) q.3)
+one_answer words bytes x y a b (inr (inl p)) (inr (inl q)) =
     let first : order_of words ≡ Some p.0 = p.1 in
     let second : order_of words ≡ Some q.0 = q.1 in
     let same : p.0 ≡ q.0 = cc in

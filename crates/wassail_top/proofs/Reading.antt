@@ -10,7 +10,7 @@ use Rattle.wassail_top.specs.Words.{order_of}
 
 pub as_due : (words : List (List ℕ)) (order : Order) (old new : Option (List ℕ)) (before now : ℕ) (answer : Answer)
     → order_of words ≡ Some order → IsDueTo order old new before now answer → IsDue words old new before now answer
-as_due words order old new before now answer named (inl h) = inl (inr (order, named, h))
+as_due words order old new before now answer named (inl h) = inl (inr (inl (order, named, h)))
 as_due words order old new before now answer named (inr failed) = inr (order, named, failed.0, failed.1)
 
 -- no more is taken than there is

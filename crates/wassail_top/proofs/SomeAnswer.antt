@@ -25,8 +25,9 @@ use Rattle.wassail_top.specs.Orders.Order.{check, rewrite, list, summary, kept, 
 use Rattle.wassail_top.specs.Refusals.{Answer, refused, unless_refused, why_no_code}
 use Rattle.run_words.specs.Words.{number_of}
 use Rattle.wassail_top.specs.Queries.{positions_of, why_not_seen}
-use Rattle.wassail_top.specs.Words.{alone, given_of, one, one_or_none, order_of, running, tracing, two, two_and_name}
+use Rattle.wassail_top.specs.Words.{alone, given_of, mill_of, one, one_or_none, order_of, running, tracing, two, two_and_name}
 use Rattle.slice_whole.proofs.NotRefuted.{NotRefuted}
+use Rattle.wassail_top.proofs.ReportAnswers.{some_milled}
 use Rattle.wassail_top.proofs.SomeAdmission.{some_admission}
 use Rattle.wassail_top.proofs.SomeDecoding.{some_decoding}
 use Rattle.wassail_top.proofs.SomeSlice.{some_kept_answer, some_slice_answer}
@@ -195,11 +196,16 @@ some_order order bytes proper all never = elim (cases_lt most_bytes (length byte
   | inr short ↦ some_bytes order bytes proper all short (λ found. never (whole order bytes short found))
 ]
 
+of_mill : (words : List (List ℕ)) (bytes : List ℕ) (o : Option ℕ) → order_of words ≡ None → mill_of words ≡ o → NotRefuted (HasAnswer words bytes)
+of_mill words bytes None none is never = never (Some bytes, refused refusal.Words, inl ((none, is), refl))
+of_mill words bytes (Some n) none is never =
+    some_milled n (λ found. never (Some bytes, found.0, inr (inr (n, is, refl, found.1))))
+
 of_order : (words : List (List ℕ)) (bytes : List ℕ) (o : Option Order) → order_of words ≡ o → All IsText words → All IsU8 bytes
     → NotRefuted (HasAnswer words bytes)
-of_order words bytes None is texts all never = never (Some bytes, refused refusal.Words, inl (is, refl))
+of_order words bytes None is texts all never = of_mill words bytes (mill_of words) is refl never
 of_order words bytes (Some order) is texts all never =
-    some_order order bytes (words_proper words texts order is) all (λ found. never (found.0, found.1, inr (order, is, found.2)))
+    some_order order bytes (words_proper words texts order is) all (λ found. never (found.0, found.1, inr (inl (order, is, found.2))))
 
 pub some_answer : (words : List (List ℕ)) (bytes : List ℕ) → All IsText words → All IsU8 bytes → NotRefuted (HasAnswer words bytes)
 some_answer words bytes texts all never = of_order words bytes (order_of words) refl texts all never

@@ -26,13 +26,15 @@ use Rattle.flow_domain.specs.Bounds.{Cover}
 use Rattle.flow_domain.specs.Kept.{Tells}
 use Rattle.flow_domain.specs.Sliced.{func_count, IsSliced, KeptIn}
 use Rattle.flow_domain.specs.Touch.{IsExact}
+use Rattle.module_mill.specs.Mill.{mill}
 use Rattle.wassail_top.specs.Orders.{Order, most_name_bytes}
 use Rattle.wassail_top.specs.Orders.Order.{check, rewrite, list, summary, kept, slice, run, trace}
-use Rattle.wassail_top.specs.Queries.{positions_of, why_no_summary, why_not_kept, why_no_slice, why_not_run, why_not_traced}
+use Rattle.wassail_top.specs.Queries.{positions_of, why_no_summary, why_not_kept, why_no_slice, why_not_milled, why_not_run, why_not_traced}
 use Rattle.wassail_top.specs.Refusals.{Answer, refused, IsRefused, unless_refused, why_no_code, why_not_decoded, why_not_admitted}
+use Rattle.wassail_top.specs.Reports.{IsReport}
 use Rattle.wassail_top.specs.RunAnswers.{AnswersUnless, IsRunAs, IsStatusOfRun}
 use Rattle.wassail_top.specs.Summaries.{AreRows, RowTest}
-use Rattle.wassail_top.specs.Words.{order_of}
+use Rattle.wassail_top.specs.Words.{IsNoCommand, mill_of, order_of}
 
 -- the greatest number of bytes that a module may have
 abbrev pub most_bytes : ℕ
@@ -130,11 +132,19 @@ AnswersOrder order old new answer =
     (Took old new (most_bytes + 1) × (answer ≡ refused (refusal.Module TooLong)))
     ⊎ ((bytes : List ℕ) × TookAll old new bytes × (length bytes ≤ most_bytes) × AnswersBytes order bytes answer)
 
+-- the report of the module
+abbrev pub IsReportOf : Module → Answer → Type 0
+IsReportOf m answer = (text : List ℕ) × IsReport m text × (answer ≡ bytes_alone text)
+
+-- what `mill` answers, which reads nothing: the report of the large module of the number
+abbrev pub AnswersMill : List (List ℕ) → Option (List ℕ) → Option (List ℕ) → Answer → Type 0
+AnswersMill words old new answer = (n : ℕ) × (mill_of words ≡ Some n) × (new ≡ old) × AnswersUnless (why_not_milled n) (IsReportOf (mill n)) answer
+
 -- what the program answers where nothing fails
 abbrev pub Answers : List (List ℕ) → Option (List ℕ) → Option (List ℕ) → Answer → Type 0
 Answers words old new answer =
-    ((order_of words ≡ None) × (answer ≡ refused refusal.Words))
-    ⊎ ((order : Order) × (order_of words ≡ Some order) × AnswersOrder order old new answer)
+    (IsNoCommand words × (answer ≡ refused refusal.Words))
+    ⊎ (((order : Order) × (order_of words ≡ Some order) × AnswersOrder order old new answer) ⊎ AnswersMill words old new answer)
 
 -- the bytes of a text, as each word is one
 abbrev pub IsText : List ℕ → Type 0

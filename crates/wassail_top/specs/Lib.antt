@@ -4,6 +4,7 @@ pub mod Outcome
 pub mod Parses
 pub mod Queries
 pub mod Refusals
+pub mod Reports
 pub mod Reply
 pub mod RunAnswers
 pub mod Statuses

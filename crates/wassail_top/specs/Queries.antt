@@ -1,5 +1,5 @@
 -- Why a query about a function, or about a position of it, is refused (docs/COMMANDS.md, "Refusals"). Of two causes the first counts (`option_or`).
-use Rattle.std.specs.Prelude.{ℕ, ℤ, List, [], length, Option, Some, None, nat_lt, if◌then◌else◌, option_and_then, slice_get}
+use Rattle.std.specs.Prelude.{ℕ, ℤ, List, [], length, Option, Some, None, nat_lt, if◌then◌else◌, option_and_then, slice_get, not, ◌&&◌}
 use Rattle.std.specs.Option.{option_or}
 use Rattle.report_text.specs.declared.refusal.QueryRefusal.{QueryRefusal}
 use Rattle.report_text.specs.declared.refusal.QueryRefusal.TheVariants as of_query
@@ -12,6 +12,7 @@ use Rattle.wasm_types.specs.Funcs.{Func, func_of, text}
 use Rattle.wasm_types.specs.Sites.{Site, body_sites}
 use Rattle.wasm_types.specs.Spaces.{body_of, func_types, type_of_func, mems_of}
 use Rattle.typed_runs.specs.Start.{least}
+use Rattle.module_mill.specs.declared.whole.TheConstants.{MOST_MILLED}
 use Rattle.module_run.specs.Runs.{most_run_pages}
 use Rattle.module_run.specs.Values.{values_for}
 use Rattle.slice_whole.specs.Slices.{count_in, why_not}
@@ -68,6 +69,10 @@ why_no_run m f args = option_or (why_not_called m f args) (why_too_large (least 
 
 -- ---- queries
 
+-- the greatest number of a module that is made
+abbrev pub most_milled : ℕ
+most_milled = MOST_MILLED
+
 -- why `summary` is refused, of one function or of all
 abbrev pub why_no_summary : Module → Option ℕ → Option QueryRefusal
 why_no_summary m None = None
@@ -84,6 +89,10 @@ why_not_traced m f i args = option_or (why_no_code m f) (option_or (why_not_seen
 -- why `kept` is refused
 abbrev pub why_not_kept : Module → ℕ → ℕ → Option QueryRefusal
 why_not_kept m f i = option_or (why_no_code m f) (why_not_seen m f i)
+
+-- why `mill` is refused
+abbrev pub why_not_milled : ℕ → Option QueryRefusal
+why_not_milled n = if nat_lt 0 n && not (nat_lt most_milled n) then None else Some of_query.BadArguments
 
 -- why `slice` is refused
 abbrev pub why_no_slice : Module → ℕ → ℕ → List ℕ → Option QueryRefusal

@@ -1,5 +1,5 @@
 -- The words that are a command (docs/COMMANDS.md).
-use Rattle.std.specs.Prelude.{ℕ, ℤ, Bool, List, [], ◌∷◌, None, Some, codes, if◌then◌else◌, nat_le, length, option_and_then}
+use Rattle.std.specs.Prelude.{◌≡◌, ℕ, ℤ, Bool, List, [], ◌∷◌, None, Some, codes, if◌then◌else◌, nat_le, length, option_and_then}
 use Rattle.std.specs.Str.{bytes_eq}
 use Rattle.std.specs.declared.option.Option.{Option}
 use Rattle.wasm_types.specs.declared.run.Reply.{Reply}
@@ -86,7 +86,16 @@ order_named name rest =
     else if bytes_eq name (codes "trace") then tracing rest
     else None
 
--- the command that the words are
+-- the command about a module that the words are
 abbrev pub order_of : List (List ℕ) → Option Order
 order_of [] = None
 order_of (name ∷ rest) = order_named name rest
+
+-- the number whose module `mill` is asked for
+abbrev pub mill_of : List (List ℕ) → Option ℕ
+mill_of (name ∷ number ∷ []) = if bytes_eq name (codes "mill") then number_of number else None
+mill_of words = None
+
+-- the words are neither
+abbrev pub IsNoCommand : List (List ℕ) → Type 0
+IsNoCommand words = (order_of words ≡ None) × (mill_of words ≡ None)

@@ -15,19 +15,22 @@ ghost use Rattle.report_text.specs.Texts.{valid_line};
 ghost use Rattle.flow_domain.specs.Summaries.{IsTableOf};
 ghost use Rattle.module_run.specs.Runs.{ends_as};
 ghost use Rattle.ref_interp.specs.Invokes.{Watches};
-ghost use Rattle.wassail_top.specs.Answers.{bytes_alone, IsDue, IsDueTo, AnswersAdmitted, AnswersBytes, AnswersModule, IsKeptAs, IsSlicedAs, IsSummaryOf, most_bytes, slice_answer};
+ghost use Rattle.module_mill.specs.Mill.{mill};
+ghost use Rattle.wassail_top.specs.Answers.{bytes_alone, IsDue, IsDueTo, AnswersAdmitted, AnswersBytes, AnswersModule, IsKeptAs, IsReportOf, IsSlicedAs, IsSummaryOf, most_bytes, slice_answer};
 ghost use Rattle.wassail_top.specs.Orders.{asked, HasShortName, most_name_bytes, order_read};
-ghost use Rattle.wassail_top.specs.Queries.{positions_of, why_no_run, why_no_slice, why_no_summary, why_not_kept, why_not_run, why_not_traced};
+ghost use Rattle.wassail_top.specs.Queries.{positions_of, why_no_run, why_no_slice, why_no_summary, why_not_kept, why_not_milled, why_not_run, why_not_traced};
 ghost use Rattle.wassail_top.specs.Refusals.{IsRefusedFor, refused, unless_refused, why_no_code};
 ghost use Rattle.wassail_top.specs.Reply.{reply_answer};
 ghost use Rattle.wassail_top.specs.RunAnswers.{AnswersUnless, IsRunAs, run_answer};
 ghost use Rattle.wassail_top.specs.Words.{order_of};
 
 use crate::refusals::{
-    admit_refusal, code_refusal, decode_refusal, sight_refusal, slice_refusal, summary_refusal,
+    admit_refusal, code_refusal, decode_refusal, mill_refusal, sight_refusal, slice_refusal,
+    summary_refusal,
 };
+use crate::report::report;
 use crate::status::Status;
-use crate::words::{Command, Question, WordsEnd, parse_words};
+use crate::words::{Command, Question, Request, WordsEnd, parse_words};
 use flow_domain::SummaryTable;
 use module_run::{RunEnd, RunRefusal, run, values_of};
 use outside_io::{ReadEnd, Source, read_all};
@@ -61,10 +64,25 @@ pub fn due<S: Source>(alloc: Global, words: &[String], source: &mut S) -> Result
     ensures later { S.faults source.old ≤ S.faults source.new }
 {
     match parse_words(alloc, words) {
-        Ok(command) => read_and_answer(alloc, command, source),
+        Ok(Request::Answer(command)) => read_and_answer(alloc, command, source),
+        Ok(Request::Mill { count }) => answer_mill(alloc, count),
         Err(WordsEnd::Refused) => refuse(alloc, Refusal::Words),
         Err(WordsEnd::Memory) => Err(NoMemory),
     }
+}
+
+// What `mill` answers.
+fn answer_mill(alloc: Global, count: u32) -> Result<Reply, NoMemory>
+    ensures { IfOk result (λ reply. AnswersUnless (why_not_milled count) (IsReportOf (mill count)) (reply_answer reply)) }
+{
+    if let Some(cause) = mill_refusal(count) {
+        return refuse(alloc, Refusal::Query(cause));
+    }
+    Ok(Reply {
+        status: Status::Answered,
+        out: Spaced::of(alloc, report(alloc, count)?),
+        err: Vec::new(alloc),
+    })
 }
 
 // What is due from a command.

@@ -4,10 +4,11 @@
 mod deliver;
 mod due;
 mod refusals;
+mod report;
 mod status;
 mod top;
 mod words;
 
 pub use status::Status;
 pub use top::{law_one_answer, law_some_answer, wassail};
-pub use words::{Command, Question, WordsEnd, parse_words};
+pub use words::{Command, Question, Request, WordsEnd, parse_words};

@@ -2,9 +2,10 @@
 
 ghost use Rattle.std.specs.Prelude.{◌≡◌, ℕ, Bool, None};
 ghost use Rattle.stack_names.specs.Ends.{HasValues};
-ghost use Rattle.wassail_top.specs.Queries.{why_no_summary, why_not_seen};
+ghost use Rattle.wassail_top.specs.Queries.{why_no_summary, why_not_milled, why_not_seen};
 ghost use Rattle.wassail_top.specs.Refusals.{why_no_code, why_not_admitted, why_not_decoded, why_not_sliced};
 
+use module_mill::MOST_MILLED;
 use report_text::{ModuleRefusal, QueryRefusal};
 use slice_whole::SliceRefusal;
 use stack_names::Names;
@@ -79,6 +80,17 @@ pub fn sight_refusal(m: &ValidModule, func: u32, names: &Names, at: u32) -> Opti
         None
     } else {
         Some(QueryRefusal::Dead { at })
+    }
+}
+
+/// Why there is no report of the large module of a number: it is out of its range.
+pub fn mill_refusal(count: u32) -> Option<QueryRefusal>
+    ensures { result ≡ why_not_milled count }
+{
+    if 0 < count && count <= MOST_MILLED {
+        None
+    } else {
+        Some(QueryRefusal::BadArguments)
     }
 }
 

@@ -15,8 +15,9 @@ ghost use Rattle.wassail_top.specs.Headline.{SliceHolds, SummaryHolds};
 ghost use Rattle.wassail_top.specs.Orders.{Order};
 ghost use Rattle.wassail_top.specs.Orders.Order.{slice, summary};
 ghost use Rattle.wassail_top.specs.Outcome.{Answered, ReadFailed, WriteFailed};
+ghost use Rattle.wassail_top.specs.Queries.{why_not_milled};
 ghost use Rattle.wassail_top.specs.Refusals.{Answer};
-ghost use Rattle.wassail_top.specs.Words.{order_of};
+ghost use Rattle.wassail_top.specs.Words.{IsNoCommand, mill_of, order_of};
 
 use crate::deliver::deliver;
 use crate::due::due;
@@ -24,7 +25,7 @@ use crate::status::Status;
 use outside_io::{Sink, Source};
 use std::alloc::Global;
 
-/// Reads the words, reads `source` where they are a command, and writes the answer to `out` and `err`. What
+/// Reads the words, reads `source` where they are a command about a module, and writes the answer to `out` and `err`. What
 /// comes out is the exit status (`Status`); docs/COMMANDS.md says when each comes.
 ///
 /// All is worked out, and all memory allocated, before the first write.
@@ -51,12 +52,12 @@ pub fn wassail<S: Source, O: Sink, E: Sink>(
     // An allocation was refused, and nothing was written.
     ensures memory { result ≡ 5 → Keeps (O.held out.old) (O.held out.new) × Keeps (E.held err.old) (E.held err.new) }
 
-    // Words that are no command leave the source as it was.
+    // Words that are no command about a module, as those of `mill` and those that are none at all, leave the source as it was.
     ensures untouched { order_of (map string_bytes words.now) ≡ None → source.new ≡ source.old }
 
     // The words are refused exactly where they are no command, unless a write fails or an allocation is refused.
-    ensures words { order_of (map string_bytes words.now) ≡ None → (result ≡ 2) ⊎ (result ≡ 4) ⊎ (result ≡ 5) }
-    ensures words_only { result ≡ 2 → order_of (map string_bytes words.now) ≡ None }
+    ensures words { IsNoCommand (map string_bytes words.now) → (result ≡ 2) ⊎ (result ≡ 4) ⊎ (result ≡ 5) }
+    ensures words_only { result ≡ 2 → IsNoCommand (map string_bytes words.now) }
 
     // Where no count of faults rose, out and err gained the answer, unless an allocation is refused.
     ensures complete { ¬ Rose (S.faults source.old) (S.faults source.new) → ¬ Rose (O.faults out.old) (O.faults out.new)
@@ -77,6 +78,10 @@ pub fn wassail<S: Source, O: Sink, E: Sink>(
     // Status 0 of `summary`: rows of a module's functions, and what they leave out of an output has no influence on it.
     ensures summaries { result ≡ 0 → (only : Option ℕ) → order_of (map string_bytes words.now) ≡ Some (summary only)
         → SummaryHolds only (S.left source.old) (S.left source.new) (O.held out.old) (O.held out.new) (E.held err.old) (E.held err.new) }
+
+    // The words of `mill` with a number in its range, and no fault where it writes, give status 0, unless an allocation is refused.
+    ensures reports { (n : ℕ) → mill_of (map string_bytes words.now) ≡ Some n → why_not_milled n ≡ None
+        → ¬ Rose (O.faults out.old) (O.faults out.new) → ¬ Rose (E.faults err.old) (E.faults err.new) → (result ≡ 0) ⊎ (result ≡ 5) }
 {
     let Ok(reply) = due(alloc, words, source) else {
         return Status::NoMemory.code();

@@ -5,8 +5,8 @@ ghost use Rattle.std.specs.String.{string_bytes};
 ghost use Rattle.run_words.specs.Words.{reply_of, value_of};
 ghost use Rattle.wassail_top.specs.Orders.{order_read, HasShortName};
 ghost use Rattle.wassail_top.specs.Orders.Order.{kept, list, slice, summary};
-ghost use Rattle.wassail_top.specs.Parses.{Parses, ReadsArgs, ReadsGiven, ReadsReplies};
-ghost use Rattle.wassail_top.specs.Words.{alone, before_slash, behind_slash, each, given_of, one, one_or_none, order_of, running, tracing, two, two_and_name};
+ghost use Rattle.wassail_top.specs.Parses.{IsShort, Parses, ParsesRequest, ReadsArgs, ReadsGiven, ReadsReplies};
+ghost use Rattle.wassail_top.specs.Words.{alone, before_slash, behind_slash, each, given_of, mill_of, one, one_or_none, order_of, running, tracing, two, two_and_name};
 
 use run_words::{ReplyEnd, parse_number, parse_reply, parse_value};
 use sqlite_items::Items;
@@ -15,6 +15,15 @@ use thiserror::Error;
 use wasm_types::{MOST_NAME_BYTES, Reply};
 
 /// What the program is asked to do.
+#[derive(Drop)]
+pub enum Request {
+    /// Answer about the module that it reads.
+    Answer(Command),
+    /// Tell of the module that is made of a number.
+    Mill { count: u32 },
+}
+
+/// What the program is asked to do with a module.
 #[derive(Drop)]
 pub enum Command {
     /// Answer a question about the module.
@@ -78,8 +87,36 @@ struct Given {
     replies: Items<Reply>,
 }
 
-/// The command that the words are. `Refused` comes exactly where they are no command (docs/COMMANDS.md).
-pub fn parse_words(alloc: Global, words: &[String]) -> Result<Command, WordsEnd>
+/// What the words ask for. `Refused` comes exactly where they are no command (docs/COMMANDS.md).
+pub fn parse_words(alloc: Global, words: &[String]) -> Result<Request, WordsEnd>
+    ensures parses { ParsesRequest (map string_bytes words.now) result }
+    ensures short { IfOk result (λ request. IsShort request) }
+{
+    if let Some(count) = parse_mill(words) {
+        return Ok(Request::Mill { count });
+    }
+    match parse_command(alloc, words) {
+        Ok(command) => Ok(Request::Answer(command)),
+        Err(end) => Err(end),
+    }
+}
+
+// The number behind `mill`.
+fn parse_mill(words: &[String]) -> Option<u32>
+    ensures { result ≡ mill_of (map string_bytes words.now) }
+{
+    let [name, number] = words else {
+        return None;
+    };
+    if name.as_str() == "mill" {
+        parse_number(number.as_bytes())
+    } else {
+        None
+    }
+}
+
+// The command about a module that the words are.
+fn parse_command(alloc: Global, words: &[String]) -> Result<Command, WordsEnd>
     ensures parses { Parses (order_of (map string_bytes words.now)) result }
     ensures short { IfOk result (λ command. HasShortName (order_read command)) }
 {

@@ -4,7 +4,7 @@ use Rattle.wasm_validate.specs.Admission.{IsAdmitted}
 use Rattle.wassail_top.specs.Answers.{HasStatus}
 use Rattle.wassail_top.specs.Reply.{reply_answer}
 use Rattle.wassail_top.proofs.Calm.{not_memory, not_write_fault, read_failed, refused_words, only_refused_words}
-use Rattle.wassail_top.proofs.Complete.{succeeds}
+use Rattle.wassail_top.proofs.Complete.{milled, succeeds}
 use Rattle.wassail_top.proofs.HeadlineLemmas.{slice_headline, summary_headline}
 use Rattle.wassail_top.proofs.top.wassail.Goals as goal
 
@@ -49,3 +49,8 @@ pub returns-in-Ok-deliver-clause-summaries : goal.returns-in-Ok-deliver-clause-s
 returns-in-Ok-deliver-clause-summaries g c =
     λ zero only order. summary_headline (map string_bytes c.args.words.now) only _ _ _ _ _ _ _ _ (reply_answer c.in-Ok.reply) order c.in-Ok.ensures.due
     (sym c.code-in-Ok-deliver.ensures ∙ zero) c.in-Ok-deliver.ensures.all
+
+pub returns-in-Ok-deliver-clause-reports : goal.returns-in-Ok-deliver-clause-reports
+returns-in-Ok-deliver-clause-reports g c =
+    λ n named taken _ _. inl (c.code-in-Ok-deliver.ensures
+    ∙ milled (map string_bytes c.args.words.now) n _ _ _ _ (reply_answer c.in-Ok.reply) named taken c.in-Ok.ensures.due)
