@@ -5,6 +5,8 @@
 #[cfg(test)]
 mod faults;
 #[cfg(test)]
+mod milling;
+#[cfg(test)]
 mod modules;
 #[cfg(test)]
 mod reading;

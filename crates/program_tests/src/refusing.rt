@@ -24,6 +24,10 @@ const NO_COMMANDS: &[Row] = &[
     ("kept 0", HEADER, 2, b"", REFUSED),
     ("summary 0 0", HEADER, 2, b"", REFUSED),
     ("summary x", HEADER, 2, b"", REFUSED),
+    ("mill", HEADER, 2, b"", REFUSED),
+    ("mill x", HEADER, 2, b"", REFUSED),
+    ("mill 4294967296", HEADER, 2, b"", REFUSED),
+    ("mill 1 1", HEADER, 2, b"", REFUSED),
 ];
 
 #[test]
