@@ -31,7 +31,7 @@ struct Asked {
 }
 
 // The module that the bytes spell, sealed.
-fn admitted(rt: &HostRuntime, bytes: &[u8]) -> Result<ValidModule, Fail>
+pub fn admitted(rt: &HostRuntime, bytes: &[u8]) -> Result<ValidModule, Fail>
     requires { length bytes.now ≤ 8388608 }
 {
     let module = decoded(rt, bytes)?;

@@ -7,4 +7,6 @@ mod flow;
 #[cfg(test)]
 mod modules;
 #[cfg(test)]
+mod runs;
+#[cfg(test)]
 mod streams;
