@@ -168,17 +168,16 @@ fn with_params(rt: &HostRuntime, head: &[u8], params: u32) -> Result<Vec<u8>, Fa
     Ok(bytes)
 }
 
-// A module of one function `() -> ()`, with this code section up to the locals, and so many nested blocks.
-fn nested(rt: &HostRuntime, head: &[u8], blocks: u32) -> Result<Vec<u8>, Fail> {
+// A module of one function `() -> ()`, with this code section up to the locals, so many nested blocks, and so many ends.
+fn nested(rt: &HostRuntime, head: &[u8], blocks: u32, ends: u32) -> Result<Vec<u8>, Fail> {
     let mut bytes = b"\0asm\x01\0\0\0\x01\x04\x01\x60\x00\x00\x03\x02\x01\x00".to_vec(rt.alloc())?;
     bytes.extend_from_slice(head)?;
     for _ in 0..blocks {
         bytes.extend_from_slice(b"\x02\x40")?;
     }
-    for _ in 0..blocks {
+    for _ in 0..ends {
         bytes.push(0x0B)?;
     }
-    bytes.push(0x0B)?;
     Ok(bytes)
 }
 
@@ -188,10 +187,24 @@ fn params_give(rt: &HostRuntime, head: &[u8], params: u32, line: &str) -> Result
     both_give(rt, &bytes, line)
 }
 
-// Whether they give this of so many nested blocks.
-fn blocks_give(rt: &HostRuntime, head: &[u8], blocks: u32, line: &str) -> Result<bool, Fail> {
-    let bytes = nested(rt, head, blocks)?;
+// Whether they give this of so many nested blocks and ends.
+fn blocks_give(
+    rt: &HostRuntime,
+    head: &[u8],
+    blocks: u32,
+    ends: u32,
+    line: &str,
+) -> Result<bool, Fail> {
+    let bytes = nested(rt, head, blocks, ends)?;
     both_give(rt, &bytes, line)
+}
+
+// Whether `check` and `rewrite` refuse two million nested blocks and so many ends with this line. They are read in large pieces.
+fn deep_blocks_give(rt: &HostRuntime, head: &[u8], ends: u32, line: &str) -> Result<bool, Fail> {
+    let bytes = nested(rt, head, 2000000, ends)?;
+    let checked = end(rt, &["check"], &bytes, 1048576, NEVER, NEVER)?;
+    let rewritten = end(rt, &["rewrite"], &bytes, 1048576, NEVER, NEVER)?;
+    Ok(checked.is(1, 0, b"", line) && rewritten.is(1, 0, b"", line))
 }
 
 #[test]
@@ -200,8 +213,25 @@ fn keeps_the_limits(rt: HostRuntime) -> Result<(), Fail> {
     assert!(rt; params_give(&rt, b"\x01\x44\x01\x60\x40", 64, "")?);
     assert!(rt; params_give(&rt, b"\x01\x45\x01\x60\x41", 65, line)?);
     let line = "wassail: module refused: nesting over 1024 in section id 10 entry 0\n";
-    assert!(rt; blocks_give(&rt, b"\x0A\x85\x18\x01\x82\x18\x00", 1024, "")?);
-    assert!(rt; blocks_give(&rt, b"\x0A\x88\x18\x01\x85\x18\x00", 1025, line)?);
+    assert!(rt; blocks_give(&rt, b"\x0A\x85\x18\x01\x82\x18\x00", 1024, 1025, "")?);
+    assert!(rt; blocks_give(&rt, b"\x0A\x88\x18\x01\x85\x18\x00", 1025, 1026, line)?);
+    assert!(rt;
+        deep_blocks_give(
+            &rt,
+            b"\x0A\x87\x9B\xEE\x02\x01\x82\x9B\xEE\x02\x00",
+            2000001,
+            line
+        )?
+    );
+    let line = "wassail: module refused: section 2 (id 10) does not read\n";
+    assert!(rt;
+        deep_blocks_give(
+            &rt,
+            b"\x0A\x86\x9B\xEE\x02\x01\x81\x9B\xEE\x02\x00",
+            2000000,
+            line
+        )?
+    );
     Ok(())
 }
 
