@@ -158,7 +158,7 @@ append_each : (P : Node → Type 0) (xs ys : List Node) → EachNode P xs → Ea
 append_each P [] ys f g = g
 append_each P (x ∷ xs) ys f g = (f.0, append_each P xs ys f.1 g)
 
-rows_append : (P : Node → Type 0) (xs ys : List (List Node)) → EachRow P xs → EachRow P ys → EachRow P (xs ++ ys)
+pub rows_append : (P : Node → Type 0) (xs ys : List (List Node)) → EachRow P xs → EachRow P ys → EachRow P (xs ++ ys)
 rows_append P [] ys f g = g
 rows_append P (x ∷ xs) ys f g = (f.0, rows_append P xs ys f.1 g)
 
@@ -176,12 +176,12 @@ row_each P [] k h = tt
 row_each P (row ∷ rows) zero h = h.0
 row_each P (row ∷ rows) (suc k) h = row_each P rows k h.1
 
-target_each : (P : Node → Type 0) (labels : List Node) (l : ℕ) → P Exit → EachNode P labels → P (target_of labels l)
+pub target_each : (P : Node → Type 0) (labels : List Node) (l : ℕ) → P Exit → EachNode P labels → P (target_of labels l)
 target_each P [] l x h = x
 target_each P (n ∷ labels) zero x h = h.0
 target_each P (n ∷ labels) (suc l) x h = target_each P labels l x h.1
 
-targets_each : (P : Node → Type 0) (labels : List Node) (ls : List ℕ) → P Exit → EachNode P labels → EachNode P (map (target_of labels) ls)
+pub targets_each : (P : Node → Type 0) (labels : List Node) (ls : List ℕ) → P Exit → EachNode P labels → EachNode P (map (target_of labels) ls)
 targets_each P labels [] x h = tt
 targets_each P labels (l ∷ ls) x h = (target_each P labels l x h, targets_each P labels ls x h)
 

@@ -5,5 +5,7 @@ pub mod WalkLemmas
 pub mod BeforeLemmas
 pub mod PointLemmas
 pub mod LeadLemmas
+pub mod StopLemmas
+pub mod EnterLemmas
 pub mod CfgLemmas
 pub mod ValidBodies

@@ -1,5 +1,5 @@
 -- The graph of a body: its points, and where they lead (docs/ANALYSES.md, "Points").
-use Rattle.std.specs.Prelude.{◌≡◌, ◌≤◌, ◌↔◌, ℕ, Bool, Some, slice_get}
+use Rattle.std.specs.Prelude.{◌≡◌, ◌≤◌, ◌↔◌, ◌⊎◌, ℕ, Bool, Some, slice_get}
 use Rattle.std.specs.List.{Contains}
 use Rattle.wasm_types.specs.declared.module.Body.{Body}
 use Rattle.wasm_types.specs.declared.place.Node.{Node}
@@ -10,9 +10,10 @@ use Rattle.wasm_types.specs.Sizes.{positions}
 use Rattle.wasm_types.specs.Subset.{most_answered, most_nesting}
 use Rattle.wasm_types.specs.Marked.{Marked, marked}
 use Rattle.wasm_types.specs.Actions.{Callees}
+use Rattle.wasm_types.specs.Nodes.{At}
 use Rattle.wasm_types.specs.Labels.{first}
 use Rattle.wasm_types.specs.Sites.{Site, Sites, IsSite, HasJoin, Leads, body_sites}
-use Rattle.block_cfg.specs.Graph.{Graph, row_of, EachOnce}
+use Rattle.block_cfg.specs.Graph.{Graph, row_of, IsInside, EachOnce}
 use Rattle.block_cfg.specs.Labels.{LabelsExist}
 
 -- A body of which the points are told: each label of a branch exists, and the body nests no deeper and has no more positions than that of a module that
@@ -28,7 +29,7 @@ IsPoint S (node.At p) = (s : Site) × IsSite S p.0 s
 IsPoint S (node.Join p) = (s : Site) × (IsSite S p.0 s × HasJoin s.head)
 IsPoint S node.Exit = Unit {0}
 
--- g has the points, each once and the first one first, and for each what it leads to and what leads to it, each once
+-- g has the points, each once and the first one first, for each what it leads to and what leads to it, each once, and where contents end
 pub record IsGraphOf (S : Sites) (start : Node) (g : Graph) : Type 0 where
   pub points : (n : Node) → Contains g.points n ↔ IsPoint S n
   pub points_once : EachOnce g.points
@@ -39,6 +40,10 @@ pub record IsGraphOf (S : Sites) (start : Node) (g : Graph) : Type 0 where
   pub before_once : (b : Node) → EachOnce (row_of g.before b)
   -- points lead to points
   pub stays : (a b : Node) → Leads S a b → IsPoint S a × IsPoint S b
+  -- where the contents of each live position end
+  pub stops : (p : ℕ) (s : Site) → IsSite S p s → slice_get g.stops p ≡ Some s.stop
+  -- what stands inside a block, a loop or an if, its join too, is entered through its beginning alone
+  pub entered : (p : ℕ) (s : Site) → IsSite S p s → (a n : Node) → Leads S a n → IsInside p s.stop n → IsInside p s.stop a ⊎ (a ≡ At p)
 
 -- g is the graph of the body, whatever the functions called are, however many results it has, and whatever is watched
 abbrev pub IsCfgOf : Body → Graph → Type 0

@@ -5,6 +5,7 @@ ghost use Rattle.block_cfg.specs.Points.{HasPoints, IsCfgOf};
 
 use crate::before::turned;
 use crate::cfg::Cfg;
+use crate::stops::stops;
 use crate::walk::{Found, walk_code};
 use sqlite_items::Items;
 use std::alloc::Global;
@@ -23,8 +24,8 @@ fn nothing(alloc: Global) -> Result<Found, NoMemory>
     })
 }
 
-/// The points of a body, and for each those that it leads to and those that lead to it (docs/ANALYSES.md, "Points"). Which functions are called and what
-/// they leave makes no difference. An error comes only where memory is refused.
+/// The points of a body, for each those that it leads to and those that lead to it, and where contents end (docs/ANALYSES.md, "Points"). Which functions
+/// are called and what they leave makes no difference. An error comes only where memory is refused.
 pub fn edges(alloc: Global, body: &Body) -> Result<Cfg, NoMemory>
     requires { HasPoints body.now }
     ensures { IfOk result (λ cfg. IsCfgOf body.now cfg) }
@@ -37,5 +38,6 @@ pub fn edges(alloc: Global, body: &Body) -> Result<Cfg, NoMemory>
     let Found { mut points, next } = found;
     points.push(Point::Exit).map_err(|_| NoMemory)?;
     let before = turned(alloc, next.as_slice())?;
-    Ok(Cfg::of(points, next, before))
+    let stops = stops(alloc, body, next.len() / 2)?;
+    Ok(Cfg::of(points, next, before, stops))
 }

@@ -1,6 +1,7 @@
 //! Points with those that they lead to and those that lead to them.
 
-ghost use Rattle.std.specs.Prelude.{◌≡◌, ◌+◌, ◌*◌, ◌^◌, ◌<◌, All, Contains, length};
+ghost use Rattle.std.specs.Prelude.{◌≡◌, ◌+◌, ◌*◌, ◌^◌, ◌<◌, All, Contains, Some, length, slice_get};
+ghost use Rattle.wasm_types.specs.Nodes.{At};
 ghost use Rattle.block_cfg.specs.Graph.{IsNumbered, number, row_of};
 
 use sqlite_items::Items;
@@ -34,12 +35,13 @@ pub fn point_of_number(index: usize) -> Point
     }
 }
 
-/// The points of a body with those that each leads to and those that lead to each (docs/ANALYSES.md, "Points").
+/// The points of a body with those that each leads to and those that lead to each, and where contents end (docs/ANALYSES.md, "Points").
 #[derive(Drop)]
 pub struct Cfg {
     points: Vec<Point>,
     next: Vec<Items<Point>>,
     before: Vec<Items<Point>>,
+    stops: Vec<usize>,
 }
 
 impl Model for Cfg {
@@ -47,21 +49,27 @@ impl Model for Cfg {
 
     ghost Value = { Graph };
 
-    ghost view = { λ c. record { points = c.points.items; next = c.next.items; before = c.before.items } };
+    ghost view = { λ c. record { points = c.points.items; next = c.next.items; before = c.before.items; stops = c.stops.items } };
 
-    ghost invariant = { λ c. IsNumbered (record { points = c.points.items; next = c.next.items; before = c.before.items }) };
+    ghost invariant = { λ c. IsNumbered (record { points = c.points.items; next = c.next.items; before = c.before.items; stops = c.stops.items }) };
 }
 
 impl Cfg {
-    /// The points and their lists, in the order of the points' numbers.
-    pub(crate) fn of(points: Vec<Point>, next: Vec<Items<Point>>, before: Vec<Items<Point>>) -> Cfg
-        requires { IsNumbered (record { points = points.items; next = next.items; before = before.items }) }
-        ensures { result ≡ record { points = points.items; next = next.items; before = before.items } }
+    /// The points, their lists in the order of their numbers, and where the contents of positions end.
+    pub(crate) fn of(
+        points: Vec<Point>,
+        next: Vec<Items<Point>>,
+        before: Vec<Items<Point>>,
+        stops: Vec<usize>,
+    ) -> Cfg
+        requires { IsNumbered (record { points = points.items; next = next.items; before = before.items; stops = stops.items }) }
+        ensures { result ≡ record { points = points.items; next = next.items; before = before.items; stops = stops.items } }
     {
         Cfg {
             points,
             next,
             before,
+            stops,
         }
     }
 
@@ -86,6 +94,14 @@ impl Cfg {
         ensures { result.now ≡ row_of self.now.before point }
     {
         self.before[point_number(point)].as_slice()
+    }
+
+    /// The position after the contents of a live position: the next one where it has none.
+    pub fn stop(&self, pos: Pos) -> usize
+        requires { Contains self.now.points (At pos.0) }
+        ensures { slice_get self.now.stops pos.0 ≡ Some result }
+    {
+        self.stops[pos.0 as usize]
     }
 
     /// A number above those of all points.

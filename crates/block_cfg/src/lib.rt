@@ -5,6 +5,7 @@ mod before;
 mod body;
 mod cfg;
 mod laws;
+mod stops;
 mod targets;
 mod walk;
 
