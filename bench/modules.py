@@ -110,6 +110,19 @@ def many_locals(sets, locals_=8192):
     return HEADER + section(1, counted([b"\x60\x00\x00"])) + section(3, counted([b"\0"])) + section(10, counted([sized(body)]))
 
 
+def loops_with_locals(copies, locals_=8192):
+    """One function `(i32) -> (i32)` of thirteen positions a copy and four more: a loop of loops with branches, in each of which a local is written where the
+    parameter isn't zero. Of so many locals besides the parameter one in two is written, once, and the others never."""
+    code = bytearray(b"\x03\x40")
+    for place in range(copies):
+        code += b"\x02\x40\x03\x40\x20\x00\x45\x0d\x01\x20\x00\x04\x40"
+        code += b"\x41\x01\x21" + number(2 * place + 1) if 2 * place < locals_ else b"\x41\x01\x1a"
+        code += b"\x05\x20\x00\x1a\x0b\x20\x00\x0d\x00\x0b\x0b"
+    code += b"\x20\x00\x0d\x00\x0b\x20\x00"
+    body = counted([number(locals_) + b"\x7f"]) + bytes(code) + b"\x0b"
+    return calling(taking(1), [body])
+
+
 def nops(count):
     """One function `() -> ()` of so many `nop`."""
     return HEADER + section(1, counted([b"\x60\x00\x00"])) + section(3, counted([b"\0"])) + section(10, counted([sized(b"\0" + b"\x01" * count + b"\x0b")]))
@@ -183,48 +196,78 @@ def wide_loop(copies, params=64, globals_=128):
     return calling(taking(params), [b"\0" + bytes(code) + b"\x20\x01\x0d\x00\x0b\x20\x00\x0b"], globals_=globals_)
 
 
-def functions_by_size(bytes_):
-    """The numbers of the functions that have bodies, imported functions counted, those with most bytes first."""
+def number_at(bytes_, at):
+    """The unsigned number that is spelled there, and what stands behind it."""
+    value = shift = 0
+    while True:
+        byte = bytes_[at]
+        value |= (byte & 127) << shift
+        at, shift = at + 1, shift + 7
+        if byte < 128:
+            return value, at
 
-    def read(at):
-        value = shift = 0
-        while True:
-            byte = bytes_[at]
-            value |= (byte & 127) << shift
-            at, shift = at + 1, shift + 7
-            if byte < 128:
-                return value, at
 
-    def name(at):
-        size, at = read(at)
+def sections(bytes_):
+    """The sections of a module: what each is, and where its contents begin."""
+    at = len(HEADER)
+    while at < len(bytes_):
+        identity = bytes_[at]
+        size, at = number_at(bytes_, at + 1)
+        yield identity, at
+        at += size
+
+
+def imported_functions(bytes_, at):
+    """How many functions an import section has."""
+
+    def behind(at):
+        size, at = number_at(bytes_, at)
         return at + size
 
     def limits(at):
         has_most = bytes_[at] & 1
-        _, at = read(at + 1)
-        return read(at)[1] if has_most else at
+        _, at = number_at(bytes_, at + 1)
+        return number_at(bytes_, at)[1] if has_most else at
 
-    at, imported, found = 8, 0, []
-    while at < len(bytes_):
-        identity = bytes_[at]
-        size, at = read(at + 1)
-        end = at + size
+    imported = 0
+    count, at = number_at(bytes_, at)
+    for _ in range(count):
+        at = behind(behind(at))
+        kind, at = bytes_[at], at + 1
+        imported += kind == 0
+        at = {0: lambda at: number_at(bytes_, at)[1], 1: lambda at: limits(at + 1), 2: limits, 3: lambda at: at + 2}[kind](at)
+    return imported
+
+
+def bodies_of(bytes_):
+    """How many functions are imported, and of each body where it begins and its size."""
+    imported, bodies = 0, []
+    for identity, at in sections(bytes_):
         if identity == 2:
-            count, at = read(at)
-            for _ in range(count):
-                at = name(name(at))
-                kind, at = bytes_[at], at + 1
-                imported += kind == 0
-                at = {0: lambda at: read(at)[1], 1: lambda at: limits(at + 1), 2: limits, 3: lambda at: at + 2}[kind](at)
+            imported = imported_functions(bytes_, at)
         elif identity == 10:
-            count, at = read(at)
-            sizes = []
+            count, at = number_at(bytes_, at)
             for _ in range(count):
-                size, at = read(at)
-                sizes.append(size)
+                size, at = number_at(bytes_, at)
+                bodies.append((at, size))
                 at += size
-            found = [imported + place for place in sorted(range(count), key=lambda place: -sizes[place])]
-        at = end
+    return imported, bodies
+
+
+def functions_by_size(bytes_):
+    """The numbers of the functions that have bodies, imported functions counted, those with most bytes first."""
+    imported, bodies = bodies_of(bytes_)
+    return [imported + place for place in sorted(range(len(bodies)), key=lambda place: -bodies[place][1])]
+
+
+def locals_of(bytes_, func):
+    """How many locals a function with a body has, its parameters left out."""
+    imported, bodies = bodies_of(bytes_)
+    runs, at = number_at(bytes_, bodies[func - imported][0])
+    found = 0
+    for _ in range(runs):
+        count, at = number_at(bytes_, at)
+        found, at = found + count, at + 1
     return found
 
 

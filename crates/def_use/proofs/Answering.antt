@@ -8,8 +8,8 @@ use Rattle.wasm_types.specs.declared.place.Def.{Def}
 use Rattle.wasm_types.specs.declared.place.Def.TheVariants as def
 use Rattle.wasm_types.specs.declared.place.Node.{Node}
 use Rattle.wasm_types.specs.Nodes.{At}
-use Rattle.wasm_types.specs.Sites.{Sites, Leads}
-use Rattle.wasm_types.specs.Reaching.{Table, Writes, writes_it, Path, edge, along, Reaches, from_entry, from_write}
+use Rattle.wasm_types.specs.Sites.{Sites}
+use Rattle.wasm_types.specs.Reaching.{writes_it, Path, Reaches, from_entry, from_write}
 use Rattle.block_cfg.specs.Graph.{Graph}
 use Rattle.block_cfg.specs.Points.{IsGraphOf}
 use Rattle.flow_domain.specs.LocTables.{Rows, WritesIn}
@@ -17,8 +17,11 @@ use Rattle.worklist.specs.Gains.{Gains}
 use Rattle.worklist.specs.Reached.{Reached}
 use Rattle.worklist.proofs.Reaching.{reached_more}
 use Rattle.def_use.specs.Answers.{rank, IsSorted, IsAnswer, defs_of}
-use Rattle.def_use.specs.Places.{place_of, IsPlaces, AllRuns, Steps, GoesBack, IsWriter, AreWriters}
-use Rattle.def_use.proofs.Backwards.{means, Means, path_met, entry_met, earlier_is}
+use Rattle.single_entry.specs.declared.skips.Skips.{Skips}
+use Rattle.single_entry.specs.Climbs.{AreEntries}
+use Rattle.def_use.specs.Places.{place_of, IsPlaces, Steps, GoesBack, IsWriter, AreWriters}
+use Rattle.def_use.proofs.Backwards.{first_edge, written_there, earlier_is}
+use Rattle.def_use.proofs.Upwards.{means, path_met, entry_met}
 
 -- ---- the list
 
@@ -87,48 +90,40 @@ sorted_defs false ps up = sorted_positions ps up
 none_there : (x : ℕ) → Contains [] x → ⊥
 none_there x (k, lt, is) = omega arith
 
-first_edge : (W : Table) (S : Sites) (x : Loc) (a q : Node) → Path W S x a q → (b : Node) × Leads S a b
-first_edge W S x a q (edge l) = (q, l)
-first_edge W S x a q (along b l free p) = (b, l)
-
-written_there : (W : Table) (x : Loc) (p : ℕ) → Writes W x (At p) → W p x
-written_there W x p (writes_it w) = w
-
-module _ (g : Graph) (T : Rows) (x : Loc) (places : List ℕ) (placed : IsPlaces g places) (heads : List ℕ) (runs : AllRuns g heads) (writers : List ℕ)
+module _ (g : Graph) (T : Rows) (x : Loc) (places : List ℕ) (placed : IsPlaces g places) (s : Skips) (entries : AreEntries g s) (writers : List ℕ)
     (write : AreWriters T x writers) (q : Node) (there : Contains g.points q) (none roots met : List ℕ) (empty : none ≡ [])
-    (gains : Gains (Steps g places heads writers (place_of places q)) none roots)
-    (exact : (y : ℕ) → Contains met y ↔ Reached (Contains roots) (GoesBack g T places heads writers x) y) where
-  met_is : (y : ℕ) → Contains met y → Reached (Steps g places heads writers (place_of places q)) (GoesBack g T places heads writers x) y
+    (gains : Gains (Steps g s places writers (place_of places q)) none roots)
+    (exact : (y : ℕ) → Contains met y ↔ Reached (Contains roots) (GoesBack g T s places writers x) y) where
+  met_is : (y : ℕ) → Contains met y → Reached (Steps g s places writers (place_of places q)) (GoesBack g T s places writers x) y
   met_is y h =
-      reached_more (Contains roots) (Steps g places heads writers (place_of places q)) (GoesBack g T places heads writers x)
-      (GoesBack g T places heads writers x)
+      reached_more (Contains roots) (Steps g s places writers (place_of places q)) (GoesBack g T s places writers x)
+      (GoesBack g T s places writers x)
       (λ z r. ⊎_elim (λ k. absurd (none_there z (rw empty at k))) (λ b. b) (gains.only z r)) (λ y z e. e) y ((exact y).0 h)
 
-  is_met : (y : ℕ) → Reached (Steps g places heads writers (place_of places q)) (GoesBack g T places heads writers x) y → Contains met y
+  is_met : (y : ℕ) → Reached (Steps g s places writers (place_of places q)) (GoesBack g T s places writers x) y → Contains met y
   is_met y r =
-      (exact y).1 (reached_more (Steps g places heads writers (place_of places q)) (Contains roots) (GoesBack g T places heads writers x)
-      (GoesBack g T places heads writers x) (λ z b. gains.all z b) (λ y z e. e) y r)
+      (exact y).1 (reached_more (Steps g s places writers (place_of places q)) (Contains roots) (GoesBack g T s places writers x)
+      (GoesBack g T s places writers x) (λ z b. gains.all z b) (λ y z e. e) y r)
 
   module _ (entry : Bool) (entry_is : (entry ≡ true) ↔ Contains met (length g.points)) (positions : List ℕ) (up : AllPairs (λ a b. a < b) positions)
       (gathered : (p : ℕ) → Contains positions p ↔ ((k : ℕ) × (Contains met k × IsWriter g T x k p))) where
     module _ (S : Sites) (start : Node) (graph : IsGraphOf S start g) where
       reaches_of : (d : Def) → Contains (defs_of entry positions) d → Reaches (WritesIn T) S start x q d
-      unfolding Means
       reaches_of def.Entry h =
           let m : Contains met (length g.points) = entry_is.0 (entry_of entry positions h) in
           ⊎_elim (λ (is, e). from_entry e) (λ (lt, p). absurd (omega arith))
-          (means S start g graph places placed heads runs T x writers write q there (length g.points) (met_is (length g.points) m))
+          (means S start g graph places placed s entries T x writers write q there (length g.points) (met_is (length g.points) m))
       reaches_of (def.At p) h =
           let w = (gathered p.0).0 (at_of entry positions p h) in
           ⊎_elim
           (λ (is, e). absurd (omega (arith, w.1.1.0)))
           (λ (lt, path). from_write (writes_it w.1.1.1.1) (subst (λ z. Path (WritesIn T) S x z q) w.1.1.1.0 path))
-          (means S start g graph places placed heads runs T x writers write q there w.0 (met_is w.0 w.1.0))
+          (means S start g graph places placed s entries T x writers write q there w.0 (met_is w.0 w.1.0))
 
       of_reaches : (d : Def) → Reaches (WritesIn T) S start x q d → Contains (defs_of entry positions) d
       of_reaches _ (from_entry e) =
           has_entry entry positions (entry_is.1 (is_met (length g.points)
-          (entry_met S start g graph places placed heads runs T x writers write q there start refl e)))
+          (entry_met S start g graph places placed s entries T x writers write q there e)))
       of_reaches _ (from_write {d} w path) =
           let first = first_edge (WritesIn T) S x (At d) q path in
           let at = earlier_is S start g graph places placed (At d) first.0 first.1 in
@@ -138,7 +133,7 @@ module _ (g : Graph) (T : Rows) (x : Loc) (places : List ℕ) (placed : IsPlaces
             place_of places (At d),
             (
               is_met (place_of places (At d))
-                  (path_met S start g graph places placed heads runs T x writers write q there d writes path),
+                  (path_met S start g graph places placed s entries T x writers write q there d writes path at.1),
               (at.0, (at.1, writes)),
             ),
           ))

@@ -1,5 +1,5 @@
 -- The graph of a body is a graph.
-use Rattle.std.proofs.Common.{ℕ, None}
+use Rattle.std.proofs.Common.{None}
 use Rattle.wasm_types.specs.declared.module.Body.{Body}
 use Rattle.wasm_types.specs.declared.place.Node.TheVariants.{Exit}
 use Rattle.wasm_types.specs.Code.{code_of}
@@ -10,7 +10,7 @@ use Rattle.wasm_types.specs.Labels.{first}
 use Rattle.wasm_types.specs.Sites.{body_sites}
 use Rattle.block_cfg.specs.Graph.{Graph}
 use Rattle.block_cfg.specs.Points.{IsCfgOf}
-use Rattle.def_use.specs.Answers.{IsGraph}
+use Rattle.single_entry.specs.Entries.{IsGraph}
 
 pub cfg_is_graph : (b : Body) (g : Graph) → IsCfgOf b g → IsGraph g
 cfg_is_graph b g is =

@@ -1,10 +1,9 @@
 pub mod Backwards
-pub mod RunLemmas
+pub mod Upwards
 pub mod Placing
 pub mod Writing
 pub mod Answering
-pub mod Keeping
+pub mod Sharing
 pub mod Indexing
-pub mod LastWriter
-pub mod PreviousLemmas
+pub mod Keeping
 pub mod CfgLemmas

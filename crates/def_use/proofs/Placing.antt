@@ -1,22 +1,11 @@
 -- The list of places, one point after another.
-use Rattle.std.proofs.Common.{◌≡◌, ◌≢◌, ℕ, ◌+◌, ◌<◌, List, length, set, sym, ◌∙◌, ap, refl, inl, inr, arith, get_or-set_same, get_or-set_other}
+use Rattle.std.proofs.Common.{◌≡◌, ◌≢◌, ℕ, ◌+◌, ◌<◌, List, length, set, sym, ◌∙◌, ap, inl, inr, arith, get_or-set_same, get_or-set_other}
 use Rattle.std.proofs.lemmas.Bool.{cases_eq}
 use Rattle.wasm_types.specs.declared.place.Node.{Node}
-use Rattle.wasm_types.specs.declared.place.Node.TheVariants.{Exit, At, Join}
+use Rattle.wasm_types.specs.declared.place.Node.TheVariants.{Exit}
 use Rattle.block_cfg.specs.Graph.{number, EachOnce}
+use Rattle.block_cfg.proofs.MemberLemmas.{number_injective}
 use Rattle.def_use.specs.Places.{point_at, place_of}
-
--- points of one number are one
-pub number_injective : (a b : Node) → number a ≡ number b → a ≡ b
-number_injective Exit Exit e = refl
-number_injective Exit (At q) e = absurd (omega arith)
-number_injective Exit (Join q) e = absurd (omega arith)
-number_injective (At p) Exit e = absurd (omega arith)
-number_injective (At p) (At q) e = let same : p.0 ≡ q.0 = omega arith in ap (λ (n : ℕ). At (record { 0 = n })) same
-number_injective (At p) (Join q) e = absurd (omega arith)
-number_injective (Join p) Exit e = absurd (omega arith)
-number_injective (Join p) (At q) e = absurd (omega arith)
-number_injective (Join p) (Join q) e = let same : p.0 ≡ q.0 = omega arith in ap (λ (n : ℕ). Join (record { 0 = n })) same
 
 module _ (points : List Node) (once : EachOnce points) (places : List ℕ) (i : ℕ) (p : Node) (lt : i < length points) (is : p ≡ point_at points i)
     (fits : number p < length places) where

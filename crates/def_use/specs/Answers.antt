@@ -11,10 +11,6 @@ use Rattle.block_cfg.specs.Graph.{Graph}
 use Rattle.block_cfg.specs.Points.{IsGraphOf}
 use Rattle.flow_domain.specs.LocTables.{Rows, WritesIn}
 
--- it is the graph of some sites
-abbrev pub IsGraph : Graph → Type 0
-IsGraph g = (S : Sites) × ((start : Node) × IsGraphOf S start g)
-
 -- the entry stands first, then positions rise
 abbrev pub rank : Def → ℕ
 rank def.Entry = 0

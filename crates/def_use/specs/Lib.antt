@@ -1,8 +1,6 @@
 pub mod Answers
-pub mod Last
 pub mod Places
 pub mod PlacesLaws
-pub mod Previous
 pub mod Writers
 pub mod Tables
 pub mod Kept

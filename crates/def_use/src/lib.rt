@@ -4,9 +4,7 @@
 mod back;
 mod defs;
 mod kept;
-mod last;
 mod places;
-mod runs;
 mod search;
 mod tables;
 mod writers;

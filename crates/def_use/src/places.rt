@@ -2,7 +2,6 @@
 
 ghost use Rattle.std.specs.Prelude.{◌≡◌, ◌<◌, IfOk, length};
 ghost use Rattle.block_cfg.specs.Graph.{EachOnce, number};
-ghost use Rattle.wasm_types.specs.Nodes.{At};
 ghost use Rattle.def_use.specs.Places.{IsPlaces};
 ghost use Rattle.def_use.specs.Places as spec;
 
@@ -28,12 +27,4 @@ pub(crate) fn place_of(places: &[usize], point: Point) -> usize
     ensures { result ≡ spec.place_of places.now point }
 {
     places[point_number(point)]
-}
-
-/// The place of a position.
-pub(crate) fn place_at(places: &[usize], pos: usize) -> usize
-    requires { number (At pos) < length places.now }
-    ensures { result ≡ spec.place_of places.now (At pos) }
-{
-    places[2 * pos + 1]
 }

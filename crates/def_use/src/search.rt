@@ -2,7 +2,8 @@
 
 ghost use Rattle.std.specs.Prelude.{◌≡◌, ◌+◌, IfOk, length};
 ghost use Rattle.std.specs.List.{Contains};
-ghost use Rattle.def_use.specs.Answers.{IsAnswer, IsGraph};
+ghost use Rattle.single_entry.specs.Entries.{IsGraph};
+ghost use Rattle.def_use.specs.Answers.{IsAnswer};
 ghost use Rattle.def_use.specs.Tables.{AreTables};
 
 use crate::back::Back;
@@ -36,7 +37,7 @@ pub(crate) fn find(
         cfg,
         locs,
         places: &tables.places,
-        heads: &tables.heads,
+        skips: &tables.skips,
         writers: tables.writers.of(loc),
         loc,
     };

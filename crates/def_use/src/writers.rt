@@ -4,12 +4,12 @@ ghost use Rattle.std.specs.Prelude.{◌≡◌, ◌≢◌, ◌++◌, ◌∷◌, [
 ghost use Rattle.std.specs.List.{AllPairs};
 ghost use Rattle.wasm_types.specs.declared.place.Loc.{Loc};
 ghost use Rattle.flow_domain.specs.LocTables.{HasUse};
-ghost use Rattle.def_use.specs.Last.{HasNoneOf, IsLastOf};
+ghost use Rattle.single_entry.specs.Last.{HasNoneOf, IsLastOf};
 ghost use Rattle.def_use.specs.Places.{AreWriters};
 ghost use Rattle.def_use.specs.Writers as spec;
 
-use crate::last::last_of;
 use flow_domain::{LocTable, LocUse};
+use single_entry::last_of;
 use std::alloc::Global;
 use wasm_types::{Loc, NoMemory};
 
@@ -20,7 +20,7 @@ pub struct Writers {
 }
 
 /// The number of a location.
-fn loc_number(loc: Loc) -> usize
+pub(crate) fn loc_number(loc: Loc) -> usize
     ensures number { result ≡ spec.loc_number loc }
     ensures small { result < 2 ^ 34 }
 {

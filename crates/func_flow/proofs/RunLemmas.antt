@@ -3,7 +3,7 @@ use Rattle.std.proofs.Common.{◌≡◌, ◌↔◌, ℕ, zero, suc, ◌+◌, ◌
 use Rattle.std.proofs.Common.{refl, sym, ap, ◌∙◌}
 use Rattle.std.proofs.Common.{is_none, IfSome, length-append, subst, inl, inr, ◌⊎◌, ⊎_elim, arith}
 use Rattle.std.specs.List.{Contains}
-use Rattle.std.proofs.lemmas.Bool.{cases_lt}
+use Rattle.std.proofs.lemmas.Bool.{cases_eq, cases_lt}
 use Rattle.std.proofs.lemmas.List.{get_or_append_left, get_or_push, get_or_past}
 use Rattle.wasm_types.specs.declared.module.Pos.{Pos}
 use Rattle.wasm_types.specs.declared.place.Loc.{Loc}
@@ -19,8 +19,7 @@ use Rattle.block_cfg.proofs.MemberLemmas.{contains_of}
 use Rattle.slice_closure.proofs.Joined.{among_is}
 use Rattle.flow_domain.specs.LocTables.{WritesIn}
 use Rattle.worklist.specs.Reached.{Reached}
-use Rattle.def_use.specs.Last.{IsLastOf, HasNoneOf}
-use Rattle.def_use.proofs.Backwards.{decide}
+use Rattle.single_entry.specs.Last.{IsLastOf, HasNoneOf}
 use Rattle.func_flow.specs.declared.items.Item.{Item}
 use Rattle.func_flow.specs.declared.items.Item.TheVariants.{Value, Completion, Decider, Decided, Written, Needed}
 use Rattle.func_flow.specs.declared.runs.Runs.{Runs}
@@ -154,6 +153,17 @@ entry_live g zero some on = absurd (some refl)
 entry_live g (suc h) some on = ap (λ b. join_only b (row_of g.before (At (suc h))) (At (suc h))) (sym on)
 
 -- ---- the last writer
+
+not_later : (w : ℕ) (ws : List ℕ) (v : ℕ) → (w ≡ v → ⊥) → (Contains ws v → ⊥) → Contains (w ∷ ws) v → ⊥
+not_later w ws v ne none (zero, lt, is) = ne is
+not_later w ws v ne none (suc k, lt, is) = none (k, omega arith, is)
+
+decide : (ws : List ℕ) (v : ℕ) → Contains ws v ⊎ (Contains ws v → ⊥)
+decide [] v = inr (λ (k, lt, is). omega arith)
+decide (w ∷ ws) v = elim (cases_eq w v) [
+  | inl e ↦ inl (0, omega arith, e)
+  | inr ne ↦ ⊎_elim (λ (k, lt, is). inl (suc k, omega arith, is)) (λ none. inr (not_later w ws v ne none)) (decide ws v)
+]
 
 -- of the numbers from h on below h + n the last one that the list has, if it has one
 last_or_none : (xs : List ℕ) (h n : ℕ) → ((w : ℕ) × IsLastOf xs h (h + n) w) ⊎ HasNoneOf xs h (h + n)

@@ -10,7 +10,7 @@ use Rattle.wasm_types.specs.Reaching.{Writes}
 use Rattle.wasm_types.specs.Takers.{is_among}
 use Rattle.block_cfg.specs.Graph.{Graph, row_of}
 use Rattle.flow_domain.specs.LocTables.{WritesIn}
-use Rattle.def_use.specs.Last.{IsLastOf, HasNoneOf}
+use Rattle.single_entry.specs.Last.{IsLastOf, HasNoneOf}
 use Rattle.def_use.specs.Places.{AreWriters}
 use Rattle.def_use.specs.Writers.{writers_of}
 use Rattle.func_flow.specs.declared.items.Item.{Item}

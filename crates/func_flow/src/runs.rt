@@ -3,7 +3,7 @@
 ghost use Rattle.std.specs.Prelude.{◌≡◌, ◌<◌, suc, true, false, None, IfOk, IfSome, MatchOption, length, slice_get};
 ghost use Rattle.wasm_types.specs.Nodes.{At};
 ghost use Rattle.block_cfg.specs.Graph.{number, row_of};
-ghost use Rattle.def_use.specs.Last.{HasNoneOf, IsLastOf};
+ghost use Rattle.single_entry.specs.Last.{HasNoneOf, IsLastOf};
 ghost use Rattle.func_flow.specs.Next.{AreMarked};
 ghost use Rattle.func_flow.specs.Runs as spec;
 ghost use Rattle.func_flow.specs.Steps.{whom_of};

@@ -1,7 +1,7 @@
 //! Reaching definitions, deciders and shadows of worked bodies.
 
 ghost use Rattle.std.specs.Prelude.{◌≤◌, Contains, IfOk, length};
-ghost use Rattle.def_use.specs.Answers.{IsGraph};
+ghost use Rattle.single_entry.specs.Entries.{IsGraph};
 ghost use Rattle.def_use.specs.Kept.{AreRight, IsMadeFor};
 
 use crate::modules::decoded;

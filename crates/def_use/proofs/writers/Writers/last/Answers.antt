@@ -1,5 +1,5 @@
 use Rattle.std.proofs.Common.{MatchOption, List, ℕ, subst}
-use Rattle.def_use.specs.Last.{HasNoneOf, IsLastOf}
+use Rattle.single_entry.specs.Last.{HasNoneOf, IsLastOf}
 use Rattle.def_use.proofs.writers.Writers.last.Goals as goal
 
 pub returns : goal.returns
