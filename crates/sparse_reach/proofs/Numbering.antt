@@ -211,6 +211,17 @@ leads_one from node number nodes nodes' waiting waiting' edges edges' m is = rec
       (Contains-push_cases edges (record { from = from; to = number }) (record { from = j; to = k }) (subst (λ (es : List Edge). Listed es j k) is h));
 }
 
+pub leads_known : (from node number : ℕ) (nodes waiting : List ℕ) (edges : List Edge) → IsNumber nodes node number → Listed edges from number
+    → Leads from (λ x. x ≡ node) nodes nodes waiting waiting edges edges
+leads_known from node number nodes waiting edges here listed = record {
+  kept = λ x k h. h;
+  only = λ x k h. inl h;
+  waits = waits_none nodes waiting;
+  stays = λ j k h. h;
+  all = λ x e. (number, (subst (λ z. IsNumber nodes z number) (sym e) here, listed));
+  new = λ j k h. inl h;
+}
+
 module _ (from : ℕ) (P Q R : ℕ → Type 0) (a b c p q r : List ℕ) (u v w : List Edge) where
   leads_then : Leads from P a b p q u v → Leads from Q b c q r v w → ((x : ℕ) → R x → P x ⊎ Q x) → ((x : ℕ) → P x → R x) → ((x : ℕ) → Q x → R x)
       → Leads from R a c p r u w

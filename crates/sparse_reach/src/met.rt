@@ -1,6 +1,6 @@
 //! The nodes that a search meets, and the edges between them.
 
-ghost use Rattle.std.specs.Prelude.{◌≡◌, ◌++◌, ◌∷◌, ℕ, ◌<◌, ◌≤◌, IfOk, length, []};
+ghost use Rattle.std.specs.Prelude.{◌≡◌, ◌++◌, ◌∷◌, ℕ, ◌<◌, ◌≤◌, IfOk, IsTrue, length, []};
 ghost use Rattle.std.specs.List.{All, Contains};
 ghost use Rattle.worklist.specs.Roots.{IsRootOf};
 ghost use Rattle.sparse_reach.specs.Met as spec;
@@ -77,12 +77,25 @@ impl Met {
         Ok(met)
     }
 
-    /// Lists an edge.
+    /// Whether the edge that was listed last is this one.
+    fn was_last(&self, from: u32, node: usize) -> bool
+        ensures { IsTrue result → (k : ℕ) × (spec.IsNumber self.now.nodes.keys node k × spec.Listed self.now.edges.items from k) }
+    {
+        let Some(last) = self.edges.last() else {
+            return false;
+        };
+        last.from == from && self.nodes.as_slice().get(last.to as usize) == Some(&node)
+    }
+
+    /// Lists an edge, unless it was listed last: a node that follows itself in a list is looked up once.
     fn lead(&mut self, from: u32, node: usize) -> Result<(), NoMemory>
         ensures starts { IfOk result (λ _. self.new.starts.items ≡ self.old.starts.items) }
         ensures leads { IfOk result (λ _. spec.Leads from (λ x. x ≡ node) self.old.nodes.keys self.new.nodes.keys self.old.waiting.items self.new.waiting.items
             self.old.edges.items self.new.edges.items) }
     {
+        if self.was_last(from, node) {
+            return Ok(());
+        }
         let to = number_of(&mut self.nodes, &mut self.waiting, node)?;
         self.edges.push(Edge { from, to }).map_err(|_| NoMemory)?;
         Ok(())
