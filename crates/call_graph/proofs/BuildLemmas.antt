@@ -1,5 +1,5 @@
 -- The tables that are made of edges and roots.
-use Rattle.std.proofs.Common.{◌≡◌, ◌↔◌, ℕ, ◌+◌, ◌<◌, ◌≤◌, List, map, Vec, Global, Option, Some, None, get_or, refl, ap, sym, ◌∙◌, subst, arith, ◌⊎◌, ⊎_elim}
+use Rattle.std.proofs.Common.{◌≡◌, ◌↔◌, ℕ, ◌+◌, ◌<◌, ◌≤◌, List, Vec, Global, Option, Some, None, get_or, refl, ap, subst, arith, ◌⊎◌, ⊎_elim}
 use Rattle.std.specs.Prelude.{slice_get, nat_lt}
 use Rattle.std.specs.List.{All, Contains, filter_map}
 use Rattle.std.specs.Option.{option_map}
@@ -15,24 +15,18 @@ use Rattle.call_graph.specs.declared.classes.Classes.{Classes}
 use Rattle.call_graph.specs.declared.deeds.Deed.{Deed}
 use Rattle.call_graph.specs.declared.deeds.Deed.TheVariants.{Calls, CallsThrough, Touches, Writes}
 use Rattle.call_graph.specs.declared.edges.Edge.{Edge}
+use Rattle.call_graph.specs.declared.edges.Way.{Way}
 use Rattle.call_graph.specs.declared.pairs.Pairs.{Pairs}
 use Rattle.call_graph.specs.Below.{AllBelow}
 use Rattle.call_graph.specs.Built.{IsEdge, IsSpread}
-use Rattle.call_graph.specs.Edges.{functions, edge_of, target_of, IsMember}
-use Rattle.call_graph.specs.Labels.{own_at, root_at, touch_by, touch_root, write_by, write_root}
+use Rattle.call_graph.specs.Edges.{functions, edge_along, edge_of, target_of, IsMember}
+use Rattle.call_graph.specs.Labels.{root_at, touch_by, touch_root, write_by, write_root}
 use Rattle.call_graph.specs.Pairs.{HasPair}
-use Rattle.call_graph.proofs.Members.{map_in, picked_in}
+use Rattle.call_graph.proofs.Members.{picked_in}
 use Rattle.call_graph.proofs.Spreading.{number_there, class_there}
 
 module _ (classes : Classes) (acts : List Act) (edges : List Edge)
     (exact : (e : Edge) → Contains edges e ↔ (Contains (filter_map (edge_of classes) acts) e ⊎ IsMember classes e)) where
-  pub calls_made : (pairs : Pairs) → ((x y : ℕ) → HasPair pairs x y ↔ ((x < functions classes) × Contains edges (record { from = x; to = y })))
-      → (x y : ℕ) → HasPair pairs x y ↔ ((x < functions classes) × IsEdge classes acts x y)
-  calls_made pairs has x y = (
-    λ h. let p = (has x y).0 h in (p.0, (exact (record { from = x; to = y })).0 p.1),
-    λ p. (has x y).1 (p.0, (exact (record { from = x; to = y })).1 p.1),
-  )
-
   pub spread_made : (next : List (Vec ℕ Global)) (roots : List Root) (pairs : Pairs)
       → ((x y : ℕ) → Has next x y ↔ Contains edges (record { from = y; to = x }))
       → ((x o : ℕ) → HasPair pairs x o ↔ ((x < functions classes) × graph.Reached (IsRootOf roots o) (Has next) x)) → IsSpread classes acts roots pairs
@@ -57,17 +51,11 @@ module _ (classes : Classes) (acts : List Act) (edges : List Edge)
       (subst (λ (n : ℕ). (x o : ℕ) → HasPair pairs x o ↔ ((x < n) × graph.Reached (IsRootOf roots o) (Has next) x)) many
       (subst (λ (rs : List Root). (x o : ℕ) → HasPair pairs x o ↔ ((x < count) × graph.Reached (IsRootOf rs o) (Has next) x)) same has))
 
-  pub calls_by : (given : List Edge) (pairs : Pairs) (count : ℕ) → count ≡ functions classes → given ≡ edges
-      → ((x y : ℕ) → HasPair pairs x y ↔ ((x < count) × Contains given (record { from = x; to = y })))
-      → (x y : ℕ) → HasPair pairs x y ↔ ((x < functions classes) × IsEdge classes acts x y)
-  calls_by given pairs count many same has =
-      calls_made pairs
-      (subst (λ (n : ℕ). (x y : ℕ) → HasPair pairs x y ↔ ((x < n) × Contains edges (record { from = x; to = y }))) many
-      (subst (λ (es : List Edge). (x y : ℕ) → HasPair pairs x y ↔ ((x < count) × Contains es (record { from = x; to = y }))) same has))
-
-  pub turned_by : (next : List (Vec ℕ Global)) (given : List Edge) → given ≡ edges → ((x y : ℕ) → Has next x y ↔ Contains given (record { from = y; to = x }))
-      → (x y : ℕ) → Has next x y ↔ Contains edges (record { from = y; to = x })
-  turned_by next given same has = subst (λ (es : List Edge). (x y : ℕ) → Has next x y ↔ Contains es (record { from = y; to = x })) same has
+  pub listed_by : (way : Way) (next : List (Vec ℕ Global)) (given : List Edge) → given ≡ edges
+      → ((x y : ℕ) → Has next x y ↔ Contains given (edge_along way (record { from = x; to = y })))
+      → (x y : ℕ) → Has next x y ↔ Contains edges (edge_along way (record { from = x; to = y }))
+  listed_by way next given same has =
+      subst (λ (es : List Edge). (x y : ℕ) → Has next x y ↔ Contains es (edge_along way (record { from = x; to = y }))) same has
 
   module _ (doers : All (λ (a : Act). a.func < functions classes) acts) (counts : AllBelow classes.count classes.by_func.items)
       (types : AllBelow classes.count classes.by_type.items) (nodes : ℕ) (many : nodes ≡ functions classes + classes.count) where
@@ -103,9 +91,6 @@ module _ (classes : Classes) (acts : List Act) (edges : List Edge)
     pub all_within : All (λ (e : Edge). (e.from < nodes) × (e.to < nodes)) edges
     all_within = λ k d lt. within (get_or edges k d) (Contains-get_or edges k d lt)
 
-    pub all_to : All (λ (e : Edge). e.to < nodes) edges
-    all_to = λ k d lt. (within (get_or edges k d) (Contains-get_or edges k d lt)).1
-
 -- ---- roots stand at functions
 
 node_at : (f : ℕ) (label : Option ℕ) (r : Root) → root_at f label ≡ Some r → f ≡ r.node
@@ -123,18 +108,6 @@ write_node f (Writes x) r e = node_at f _ r e
 write_node f (Touches x) r e = absurd cc
 write_node f (Calls x) r e = absurd cc
 write_node f (CallsThrough x) r e = absurd cc
-
--- each node once with a label
-module _ (order : List ℕ) (nodes : ℕ) (exact : (x : ℕ) → Contains order x ↔ (x < nodes)) where
-  at_nodes : (f : ℕ → Root) → ((x : ℕ) → (f x).node ≡ x) → All (λ (r : Root). r.node < nodes) (map f order)
-  at_nodes f at = λ k d lt.
-      let w = map_in f order (get_or (map f order) k d) (Contains-get_or (map f order) k d lt) in
-      let lx = (exact w.0).0 w.1.0 in
-      let s : w.0 ≡ (get_or (map f order) k d).node = sym (at w.0) ∙ ap (λ (r : Root). r.node) w.1.1 in
-      subst (λ (x : ℕ). x < nodes) s lx
-
-  pub own_nodes : (roots : List Root) → roots ≡ map own_at order → All (λ (r : Root). r.node < nodes) roots
-  own_nodes roots are = rw are (at_nodes own_at (λ x. refl))
 
 module _ (acts : List Act) (n nodes : ℕ) (le : n ≤ nodes) (doers : All (λ (a : Act). a.func < n) acts) (roots : List Root) where
   pub touch_nodes : roots ≡ filter_map touch_root acts → All (λ (r : Root). r.node < nodes) roots

@@ -11,7 +11,7 @@ use Rattle.wasm_types.specs.Funcs.{Func, func_of, func_from}
 use Rattle.wasm_types.specs.Hosts.{HostFunc, IsFunction, host_from, host_of}
 use Rattle.wasm_types.specs.Locations.{writes_in, is_outer}
 use Rattle.wasm_types.specs.Spaces.{func_types, import_count, type_numbered, type_of_func, body_of}
-use Rattle.flow_domain.specs.Reach.{LiveIn, CallsFunc, by_number, by_table, Reached, itself, after_call, MayWrite}
+use Rattle.flow_domain.specs.Reach.{CallsFunc, by_number, by_table, Reached, itself, after_call, MayWrite}
 use Rattle.flow_domain.specs.Reach as writing
 use Rattle.flow_domain.specs.Rows.{Target}
 use Rattle.flow_domain.specs.Touch.{MayTouch, touches_in}
@@ -58,6 +58,11 @@ calls_below m f g (by_table F op t is live form there) = own_below m f F is
 pub reached_below : (m : Module) (f g : ℕ) → Reached m f g → IsFunction m g → IsFunction m f
 reached_below m f g itself lt = lt
 reached_below m f g (after_call h c r) lt = calls_below m f h c
+
+-- one call more at the end
+pub after_calls : (m : Module) (f g h : ℕ) → Reached m f g → CallsFunc m g h → Reached m f h
+after_calls m f _ h itself calls = after_call h calls itself
+after_calls m f g h (after_call k first rest) calls = after_call k first (after_calls m k g h rest calls)
 
 -- ---- calls
 

@@ -1,16 +1,18 @@
 -- One edge more in a table, in lists and among edges.
-use Rattle.std.proofs.Common.{◌≡◌, ◌↔◌, ℕ, ◌+◌, ◌*◌, ◌<◌, ◌≤◌, List, [], ◌∷◌, ◌++◌, Some, None, length, get_or, take, ap, sym, ◌∙◌, subst, arith, inl, inr, ◌⊎◌, ⊎_elim}
+use Rattle.std.proofs.Common.{◌≡◌, ◌↔◌, ℕ, ◌+◌, ◌<◌, ◌≤◌, List, [], ◌∷◌, ◌++◌, Some, None, length, get_or, take}
+use Rattle.std.proofs.Common.{ap, sym, ◌∙◌, subst, arith, inl, inr, ◌⊎◌, ⊎_elim}
 use Rattle.std.specs.Prelude.{slice_get}
 use Rattle.std.specs.List.{All, Contains}
 use Rattle.std.proofs.lemmas.Bool.{cases_lt}
 use Rattle.std.proofs.lemmas.List.{take_more}
 use Rattle.std.proofs.lemmas.List.Elements.{All-more, All-weaker, Contains-push, Contains-push_cases, Contains-append_left}
-use Rattle.worklist.specs.Bits.{HasBit, GainsBits}
 use Rattle.worklist.specs.declared.labels.Root.{Root}
 use Rattle.call_graph.specs.declared.classes.Classes.{Classes}
 use Rattle.call_graph.specs.declared.edges.Edge.{Edge}
+use Rattle.call_graph.specs.declared.edges.Way.{Way}
+use Rattle.call_graph.specs.declared.edges.Way.TheVariants.{Callees, Callers}
 use Rattle.call_graph.specs.declared.acts.Act.{Act}
-use Rattle.call_graph.specs.Edges.{functions, IsMember, edge_of, target_of}
+use Rattle.call_graph.specs.Edges.{functions, IsMember, edge_along, edge_of, target_of}
 use Rattle.std.specs.Option.{option_map}
 
 -- ---- one more of a list of edges
@@ -28,51 +30,33 @@ module _ (edges : List Edge) (i : ℕ) (e : Edge) (lt : i < length edges) (here 
   in_more : (z : Edge) → Contains (take (i + 1) edges) z → Contains (take i edges) z ⊎ (e ≡ z)
   in_more z h = Contains-push_cases (take i edges) e z (rw next at h)
 
-  -- a table that gains the edge
-  pub bits_more : (words rows columns : ℕ) (bits new : List ℕ) → columns ≤ words * 64 → e.from < rows
-      → GainsBits words (λ r o. (r ≡ e.from) × (o ≡ e.to)) bits new
-      → ((x y : ℕ) → y < columns → HasBit words bits x y ↔ ((x < rows) × Contains (take i edges) (record { from = x; to = y })))
-      → (x y : ℕ) → y < columns → HasBit words new x y ↔ ((x < rows) × Contains (take (i + 1) edges) (record { from = x; to = y }))
-  bits_more words rows columns bits new wide lf gains exact x y ly =
-      let within : y < words * 64 = omega arith in (
-        λ h. ⊎_elim
-            (λ k. let p = (exact x y ly).0 k in (p.0, more_in (record { from = x; to = y }) (inl p.1)))
-            (λ p. let a = p.0 in (omega arith, more_in (record { from = x; to = y }) (inr (same_edge x y p.0 p.1))))
-            (gains.only x y within h),
-        λ (lx, c). ⊎_elim
-            (λ k. gains.kept x y within ((exact x y ly).1 (lx, k)))
-            (λ s. gains.all x y within (sym (ap (λ (z : Edge). z.from) s), sym (ap (λ (z : Edge). z.to) s)))
-            (in_more (record { from = x; to = y }) c),
+  -- lists that gain it
+  pub lists_more : (way : Way) (Old New : ℕ → ℕ → Type 0)
+      → ((x y : ℕ) → New x y ↔ (Old x y ⊎ ((x ≡ (edge_along way e).from) × (y ≡ (edge_along way e).to))))
+      → ((x y : ℕ) → Old x y ↔ Contains (take i edges) (edge_along way (record { from = x; to = y })))
+      → (x y : ℕ) → New x y ↔ Contains (take (i + 1) edges) (edge_along way (record { from = x; to = y }))
+  lists_more way Old New gains exact x y =
+      let it : Edge = edge_along way (record { from = x; to = y }) in (
+        λ h. more_in it (⊎_elim (λ k. inl ((exact x y).0 k)) (λ p. inr (same_edge way p.0 p.1)) ((gains x y).0 h)),
+        λ c. (gains x y).1 (⊎_elim (λ k. inl ((exact x y).1 k)) (λ s. inr (ends way s)) (in_more it c)),
       )
     where
-      same_edge : (x y : ℕ) → x ≡ e.from → y ≡ e.to → e ≡ record { from = x; to = y }
-      same_edge x y p q = let f : (a b : ℕ) → Edge = λ a b. record { from = a; to = b } in ap (λ (a : ℕ). f a e.to) (sym p) ∙ ap (f x) (sym q)
+      same_edge : (way : Way) → x ≡ (edge_along way e).from → y ≡ (edge_along way e).to → e ≡ edge_along way (record { from = x; to = y })
+      same_edge Callees p q = let f : (a b : ℕ) → Edge = λ a b. record { from = a; to = b } in ap (λ (a : ℕ). f a e.to) (sym p) ∙ ap (f x) (sym q)
+      same_edge Callers p q = let f : (a b : ℕ) → Edge = λ a b. record { from = a; to = b } in ap (λ (a : ℕ). f a e.to) (sym q) ∙ ap (f y) (sym p)
 
-  pub bits_skip : (words rows columns : ℕ) (bits : List ℕ) → rows ≤ e.from
-      → ((x y : ℕ) → y < columns → HasBit words bits x y ↔ ((x < rows) × Contains (take i edges) (record { from = x; to = y })))
-      → (x y : ℕ) → y < columns → HasBit words bits x y ↔ ((x < rows) × Contains (take (i + 1) edges) (record { from = x; to = y }))
-  bits_skip words rows columns bits past exact x y ly = (
-    λ h. let p = (exact x y ly).0 h in (p.0, more_in (record { from = x; to = y }) (inl p.1)),
-    λ (lx, c). ⊎_elim
-        (λ k. (exact x y ly).1 (lx, k))
-        (λ s. let f : e.from ≡ x = ap (λ (z : Edge). z.from) s in absurd (omega arith))
-        (in_more (record { from = x; to = y }) c),
-  )
+      ends : (way : Way) → e ≡ edge_along way (record { from = x; to = y }) → (x ≡ (edge_along way e).from) × (y ≡ (edge_along way e).to)
+      ends Callees s = (sym (ap (λ (z : Edge). z.from) s), sym (ap (λ (z : Edge). z.to) s))
+      ends Callers s = (sym (ap (λ (z : Edge). z.to) s), sym (ap (λ (z : Edge). z.from) s))
 
-  -- lists that gain it
-  pub lists_more : (Old New : ℕ → ℕ → Type 0) → ((x y : ℕ) → New x y ↔ (Old x y ⊎ ((x ≡ e.to) × (y ≡ e.from))))
-      → ((x y : ℕ) → Old x y ↔ Contains (take i edges) (record { from = y; to = x }))
-      → (x y : ℕ) → New x y ↔ Contains (take (i + 1) edges) (record { from = y; to = x })
-  lists_more Old New gains exact x y = (
-    λ h. more_in (record { from = y; to = x }) (⊎_elim (λ k. inl ((exact x y).0 k)) (λ p. inr (same_edge p.0 p.1)) ((gains x y).0 h)),
-    λ c. (gains x y).1 (⊎_elim
-        (λ k. inl ((exact x y).1 k))
-        (λ s. inr (sym (ap (λ (z : Edge). z.to) s), sym (ap (λ (z : Edge). z.from) s)))
-        (in_more (record { from = y; to = x }) c)),
-  )
-    where
-      same_edge : x ≡ e.to → y ≡ e.from → e ≡ record { from = y; to = x }
-      same_edge p q = let f : (a b : ℕ) → Edge = λ a b. record { from = a; to = b } in ap (λ (a : ℕ). f a e.to) (sym q) ∙ ap (f y) (sym p)
+pub list_below : (way : Way) (n : ℕ) (e : Edge) → (e.from < n) × (e.to < n) → (edge_along way e).from < n
+list_below Callees n e p = p.0
+list_below Callers n e p = p.1
+
+pub entry_below : (way : Way) (n x y : ℕ)
+    → ((edge_along way (record { from = x; to = y })).from < n) × ((edge_along way (record { from = x; to = y })).to < n) → y < n
+entry_below Callees n x y p = p.1
+entry_below Callers n x y p = p.0
 
 -- ---- the functions of classes
 

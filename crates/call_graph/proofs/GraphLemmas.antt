@@ -1,5 +1,6 @@
 -- The tables of a module's graph tell what its functions call, reach, touch and write.
-use Rattle.std.proofs.Common.{◌≡◌, ◌↔◌, ℕ, zero, suc, ◌+◌, ◌<◌, List, map, true, Option, Some, None, length, get_or, refl, ap, sym, ◌∙◌, subst, arith, inl, inr, ⊎_elim}
+use Rattle.std.proofs.Common.{◌≡◌, ◌↔◌, ℕ, zero, suc, ◌+◌, ◌<◌, ◌≤◌, List, [], ◌∷◌, true, Option, Some, None, length, get_or}
+use Rattle.std.proofs.Common.{refl, ap, sym, ◌∙◌, subst, arith, inl, inr, ⊎_elim}
 use Rattle.std.specs.Prelude.{slice_get}
 use Rattle.std.specs.List.{All, Contains, filter_map}
 use Rattle.std.proofs.lemmas.List.Elements.{Contains-get_or}
@@ -10,7 +11,7 @@ use Rattle.wasm_types.specs.declared.place.Loc.TheVariants.{Local, Global, Mem, 
 use Rattle.wasm_types.specs.Hosts.{HostFunc, IsFunction, host_writes}
 use Rattle.wasm_types.specs.Locations.{is_outer}
 use Rattle.wasm_types.specs.Spaces.{func_types}
-use Rattle.flow_domain.specs.Reach.{CallsFunc, Reached, itself, after_call, MayWrite}
+use Rattle.flow_domain.specs.Reach.{CallsFunc, Reached, MayWrite}
 use Rattle.flow_domain.specs.Touch.{MayTouch, host_touches}
 use Rattle.worklist.specs.declared.labels.Root.{Root}
 use Rattle.worklist.specs.Lists.{Has}
@@ -24,17 +25,17 @@ use Rattle.call_graph.specs.declared.deeds.Deed.{Deed}
 use Rattle.call_graph.specs.declared.deeds.Deed.TheVariants.{Calls, CallsThrough, Touches, Writes}
 use Rattle.call_graph.specs.declared.edges.Edge.{Edge}
 use Rattle.call_graph.specs.declared.pairs.Pairs.{Pairs}
-use Rattle.call_graph.specs.Deeds.{IsDeed, HostDoes, Does}
+use Rattle.call_graph.specs.Deeds.{Does}
 use Rattle.call_graph.specs.Deeds as deed
-use Rattle.call_graph.specs.Built.{AreNodes, IsEdge, IsGraphBy}
+use Rattle.call_graph.specs.Built.{IsEdge, IsGraphBy}
 use Rattle.call_graph.specs.Edges.{functions, edge_of, target_of, Leads}
-use Rattle.call_graph.specs.Graph.{CallsNumber, IsCallGraph, TellsCall, TellsCaller, TellsLoc, TellsNumber}
-use Rattle.call_graph.specs.Labels.{label_of, own_at, root_at, touch_by, touch_root, write_by, write_root}
+use Rattle.call_graph.specs.Graph.{CallsNumber, IsCallGraph, LeadsTo, TellsCall, TellsCaller, TellsLoc, TellsNumber, TellsReached}
+use Rattle.call_graph.specs.Labels.{label_of, root_at, touch_by, touch_root, write_by, write_root}
 use Rattle.call_graph.specs.Pairs.{HasPair}
 use Rattle.call_graph.specs.Tells.{AreAlike, TellsTargets}
-use Rattle.call_graph.proofs.Members.{in_map, in_picked, map_in, picked_in}
+use Rattle.call_graph.proofs.Members.{in_first, in_picked, one_in, picked_in}
 use Rattle.call_graph.proofs.Calling.{does_below, does_number, number_deed, calls_below, reached_below, does_touch, does_write, touch_does, write_does, call_touches, call_writes, touch_form, write_form}
-use Rattle.call_graph.proofs.Spreading.{edge_calls, number_does, number_leads, pair_calls, call_edges, spread_sound, spread_complete}
+use Rattle.call_graph.proofs.Spreading.{edge_calls, number_does, number_leads, pair_calls, call_edges, led_exact, spread_sound, spread_complete}
 
 -- ---- labels
 
@@ -115,7 +116,7 @@ edge_there f (Some t) x y e =
     let q : a ≡ b = cc in (ap (λ (z : Edge). z.from) q, ap (λ (z : Edge). Some z.to) q)
 
 -- the lists of callers tell the calls that the table tells
-callers_tell : (g : CallGraph) → ((f y : ℕ) → HasPair g.calls f y ↔ ((f < functions g.classes) × Has g.callers.next.items y f)) → (h f : ℕ) → {P : Type 0}
+callers_tell : (g : CallGraph) → ((f y : ℕ) → LeadsTo g f y ↔ ((f < functions g.classes) × Has g.callers.next.items y f)) → (h f : ℕ) → {P : Type 0}
     → TellsCall g f h ↔ P → TellsCaller g h f ↔ P
 callers_tell g turned h f tells = (
   λ (lt, s). tells.0 (⊎_elim
@@ -226,25 +227,7 @@ module _ (m : Module) (classes : Classes) (same : functions classes ≡ length (
           ),
     )
 
-    -- each node is a root of its own number
-    pub reached_tell : (pairs : Pairs) (roots : List Root) (nodes : List ℕ) → roots ≡ map own_at nodes → AreNodes classes nodes → Spread pairs roots
-        → (f h : ℕ) → IsFunction m f → IsFunction m h → HasPair pairs f h ↔ Reached m f h
-    reached_tell pairs roots nodes are each spread f h lf lh =
-        let own : (g : ℕ) → IsRootOf roots h g → (g < functions classes) × Reached m g h =
-        λ g r.
-        let w = map_in own_at nodes (record { label = h; node = g }) (rw are at r) in
-        let e : h ≡ g = sym (ap (λ (z : Root). z.label) w.1.1) ∙ ap (λ (z : Root). z.node) w.1.1 in
-        (subst (λ (z : ℕ). z < functions classes) e (below h lh), subst (λ (z : ℕ). Reached m z h) e itself) in (
-          λ has. let s = (spread f h).0 has in
-              spread_sound m classes same targets (λ (g : ℕ). Reached m g h) (λ a b c r. after_call b c r) (IsRootOf roots h) own E edges f s.0 s.1,
-          λ r. (spread f h).1 (
-            below f lf,
-            spread_complete m classes same targets (λ (g : ℕ). Reached m g h) (λ a b c r. after_call b c r) (IsRootOf roots h) own E edges f h r lh
-                (root (rw are (in_map own_at nodes h ((each h).1 (let lt = below h lh in omega (arith, lt)))))),
-          ),
-        )
-
-  pub calls_tell : (g : CallGraph) → g.classes ≡ classes → ((x y : ℕ) → HasPair g.calls x y ↔ ((x < functions classes) × IsEdge classes acts x y))
+  pub calls_tell : (g : CallGraph) → g.classes ≡ classes → ((x y : ℕ) → LeadsTo g x y ↔ ((x < functions classes) × IsEdge classes acts x y))
       → (f h : ℕ) → IsFunction m h → TellsCall g f h ↔ CallsFunc m f h
   calls_tell g is has f h lh =
       let below : h < functions classes = omega (arith, same, lh) in (
@@ -253,7 +236,7 @@ module _ (m : Module) (classes : Classes) (same : functions classes ≡ length (
             (λ k.
             let node = functions classes + k.0 in
             let member : slice_get classes.by_func.items h ≡ Some (Some k.0) = subst (λ (z : Classes). slice_get z.by_func.items h ≡ Some (Some k.0)) is k.1.0 in
-            let p = (has f node).0 (subst (λ (z : Classes). HasPair g.calls f (functions z + k.0)) is k.1.1) in
+            let p = (has f node).0 (subst (λ (z : Classes). LeadsTo g f (functions z + k.0)) is k.1.1) in
             pair_calls m classes same targets f h k.0 p.0 member ((edge_leads f node).0 p.1))
             t,
         λ c.
@@ -265,7 +248,7 @@ module _ (m : Module) (classes : Classes) (same : functions classes ≡ length (
               e.0,
               (
                 subst (λ (z : Classes). slice_get z.by_func.items h ≡ Some (Some e.0)) (sym is) e.1.0,
-                subst (λ (z : Classes). HasPair g.calls f (functions z + e.0)) (sym is)
+                subst (λ (z : Classes). LeadsTo g f (functions z + e.0)) (sym is)
                     ((has f (functions classes + e.0)).1 (bf, (edge_leads f (functions classes + e.0)).1 e.1.1)),
               ),
             ))
@@ -289,21 +272,33 @@ module _ (m : Module) (classes : Classes) (same : functions classes ≡ length (
             ),
       )
 
+  -- nodes that are led to are functions that are reached
+  reached_tell : (g : CallGraph) → ((f y : ℕ) → Has g.callees.next.items f y ↔ IsEdge classes acts f y) → (f h : ℕ) → IsFunction m f → IsFunction m h
+      → TellsReached g f h ↔ Reached m f h
+  reached_tell g callees f h lf lh =
+      led_exact m classes same targets f (omega (arith, same, lf)) (Contains (f ∷ [])) (λ x. (one_in f x, λ e. in_first f x [] (sym e)))
+      (Has g.callees.next.items) (λ x y. (λ k. (edge_leads x y).0 ((callees x y).0 k), λ e. (callees x y).1 ((edge_leads x y).1 e))) h lh
+
   pub graph_tells : AreAlike m classes → (g : CallGraph) → IsGraphBy classes acts g → IsCallGraph m g
   graph_tells alike g b =
       let E : ℕ → ℕ → Type 0 = λ x y. IsEdge classes acts y x in
       let edges : (x y : ℕ) → E x y ↔ Leads m classes y x = λ x y. edge_leads y x in
-      let turned : (f y : ℕ) → HasPair g.calls f y ↔ ((f < functions g.classes) × Has g.callers.next.items y f) = λ f y. (
-        λ h. let p = (b.calls f y).0 h in (subst (λ (z : Classes). f < functions z) (sym b.same) p.0, (b.callers f y).1 p.1),
-        λ p. (b.calls f y).1 (subst (λ (z : Classes). f < functions z) b.same p.0, (b.callers f y).0 p.1),
+      let leads : (f y : ℕ) → LeadsTo g f y ↔ ((f < functions classes) × IsEdge classes acts f y) = λ f y. (
+        λ h. (subst (λ (z : Classes). f < functions z) b.same h.0, (b.callees f y).0 h.1),
+        λ p. (subst (λ (z : Classes). f < functions z) (sym b.same) p.0, (b.callees f y).1 p.1),
+      ) in
+      let turned : (f y : ℕ) → LeadsTo g f y ↔ ((f < functions g.classes) × Has g.callers.next.items y f) = λ f y. (
+        λ h. (h.0, (b.callers f y).1 ((b.callees f y).0 h.1)),
+        λ p. (p.0, (b.callees f y).1 ((b.callers f y).0 p.1)),
       ) in
       record {
         count = ap functions b.same ∙ same;
         targets = subst (TellsTargets m) (sym b.same) targets;
-        calls = calls_tell g b.same b.calls;
-        callers = λ h f lh. callers_tell g turned h f (calls_tell g b.same b.calls f h lh);
+        calls = calls_tell g b.same leads;
+        callers = λ h f lh. callers_tell g turned h f (calls_tell g b.same leads f h lh);
         numbers = numbers_tell g b.same b.callers;
-        reached = reached_tell E edges g.reached (map own_at b.nodes) b.nodes refl b.are_nodes b.reached;
+        nodes = subst (λ (z : Classes). functions z ≤ length g.callees.next.items) (sym b.same) b.nodes;
+        reached = reached_tell g b.callees;
         touches = touches_tell E edges g.touches (filter_map touch_root acts) refl b.touches;
         members = subst (λ (z : Classes). (c f : ℕ) → Has g.members.items c f ↔ (slice_get z.by_func.items f ≡ Some (Some c))) (sym b.same) b.members;
         order = λ f. subst (λ (n : ℕ). Contains g.order.items f ↔ (f < n)) same (b.order f);

@@ -17,6 +17,9 @@ pub in_split : {A : Type 0} (y x : A) (ys : List A) → Contains (y ∷ ys) x �
 in_split y x ys (zero, lt, is) = inl is
 in_split y x ys (suc k, lt, is) = inr (k, omega arith, is)
 
+pub one_in : {A : Type 0} (y x : A) → Contains (y ∷ []) x → x ≡ y
+one_in y x h = ⊎_elim (λ e. sym e) (λ k. absurd (none_in x k)) (in_split y x [] h)
+
 pub in_map : {A B : Type 0} (f : A → B) (xs : List A) (x : A) → Contains xs x → Contains (map f xs) (f x)
 in_map f [] x h = absurd (none_in x h)
 in_map f (y ∷ ys) x h = ⊎_elim

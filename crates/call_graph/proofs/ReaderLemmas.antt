@@ -8,7 +8,7 @@ use Rattle.call_graph.specs.declared.calls.CallGraph.{CallGraph}
 use Rattle.call_graph.specs.declared.classes.Classes.{Classes}
 use Rattle.call_graph.specs.declared.pairs.Pairs.{Pairs}
 use Rattle.call_graph.specs.Edges.{functions, class_in}
-use Rattle.call_graph.specs.Graph.{TellsCall, TellsLoc}
+use Rattle.call_graph.specs.Graph.{LeadsTo, TellsCall, TellsLoc}
 use Rattle.call_graph.specs.Labels.{label_of}
 use Rattle.call_graph.specs.Pairs.{HasPair}
 use Rattle.call_graph.specs.Tells.{TellsTargets}
@@ -61,11 +61,11 @@ module _ (m : Module) (classes : Classes) (t f : ℕ) (tells : TellsTargets m cl
   target_unclassed none = (λ h. absurd cc, λ g. let s = (tells t f).1 g in absurd (not_in (slice_get classes.by_func.items f) s.0 none s.1.1))
 
 module _ (g : CallGraph) (f h : ℕ) (P : Type 0) (tells : TellsCall g f h ↔ P) where
-  pub call_direct : HasPair g.calls f h → IsTrue true ↔ P
+  pub call_direct : LeadsTo g f h → IsTrue true ↔ P
   call_direct has = (λ t. tells.0 (inl has), λ p. refl)
 
-  pub call_by_class : (HasPair g.calls f h → ⊥) → (c : ℕ) (r : Bool) → class_in (slice_get g.classes.by_func.items h) ≡ Some c
-      → IsTrue r ↔ HasPair g.calls f (functions g.classes + c) → IsTrue r ↔ P
+  pub call_by_class : (LeadsTo g f h → ⊥) → (c : ℕ) (r : Bool) → class_in (slice_get g.classes.by_func.items h) ≡ Some c
+      → IsTrue r ↔ LeadsTo g f (functions g.classes + c) → IsTrue r ↔ P
   call_by_class not c r fn has =
       let of = in_class (slice_get g.classes.by_func.items h) c fn in (
         λ t. tells.0 (inr (c, (of, has.0 t))),
@@ -74,11 +74,11 @@ module _ (g : CallGraph) (f h : ℕ) (P : Type 0) (tells : TellsCall g f h ↔ P
             (λ s.
             let a : Some (Some c) ≡ Some (Some s.0) = sym of ∙ s.1.0 in
             let e : s.0 ≡ c = cc in
-            has.1 (subst (λ (k : ℕ). HasPair g.calls f (functions g.classes + k)) e s.1.1))
+            has.1 (subst (λ (k : ℕ). LeadsTo g f (functions g.classes + k)) e s.1.1))
             (tells.1 p),
       )
 
-  pub call_by_none : (HasPair g.calls f h → ⊥) → class_in (slice_get g.classes.by_func.items h) ≡ None → IsTrue false ↔ P
+  pub call_by_none : (LeadsTo g f h → ⊥) → class_in (slice_get g.classes.by_func.items h) ≡ None → IsTrue false ↔ P
   call_by_none not none = (
     λ t. absurd cc,
     λ p. ⊎_elim (λ d. absurd (not d)) (λ s. absurd (not_in (slice_get g.classes.by_func.items h) s.0 none s.1.0)) (tells.1 p),

@@ -14,7 +14,7 @@ use Rattle.call_graph.specs.declared.deeds.Deed.TheVariants.{Calls, CallsThrough
 use Rattle.call_graph.specs.Deeds.{Does}
 use Rattle.call_graph.specs.Edges.{functions, class_node, target_of, Leads}
 use Rattle.call_graph.specs.Tells.{TellsTargets}
-use Rattle.call_graph.proofs.Calling.{does_below, reached_below, does_call, does_through, call_does}
+use Rattle.call_graph.proofs.Calling.{after_calls, does_below, reached_below, does_call, does_through, call_does}
 
 pub number_there : (g n y : ℕ) (b : Bool) → nat_lt g n ≡ b → (if b then Some g else None) ≡ Some y → (g < n) × (g ≡ y)
 number_there g n y true is e = (ltb-true g n is, cc)
@@ -118,3 +118,57 @@ module _ (m : Module) (classes : Classes) (same : functions classes ≡ length (
         (λ e. step k at ((edges k f).1 e))
         (λ e. step (functions classes + e.0) (step k at ((edges k (functions classes + e.0)).1 (inr (e.0, (e.1.0, refl))))) ((edges (functions classes + e.0) f).1 e.1.1))
         (call_edges f k (omega (arith, same, lk)) c)
+
+  -- ---- where a function leads to, by edges
+
+  module _ (f : ℕ) (lf : f < functions classes) (Root : ℕ → Type 0) (roots : (x : ℕ) → Root x ↔ (x ≡ f))
+      (E : ℕ → ℕ → Type 0) (edges : (x y : ℕ) → E x y ↔ Leads m classes x y) where
+    record Led (y : ℕ) : Type 0 where
+      pub function : y < functions classes → Reached m f y
+      pub class : (c : ℕ) → y ≡ functions classes + c → (h : ℕ) → slice_get classes.by_func.items h ≡ Some (Some c) → Reached m f h
+
+    onward : (w y : ℕ) → Led w → Leads m classes w y → Led y
+    onward w y led (inl (d, (does, is))) = by d does is
+      where
+        by : (d : Deed) → Does m w d → target_of classes d ≡ Some y → Led y
+        by (Calls g) does is =
+            let e = number_there g (functions classes) y (nat_lt g (functions classes)) refl is in
+            let lt = e.0 in let eq = e.1 in
+            record {
+              function = λ l. after_calls m f w y (led.function (doer_below w (Calls g) does)) (subst (CallsFunc m w) eq (does_call m w g does));
+              class = λ c past. absurd (omega (arith, lt, eq, past));
+            }
+        by (CallsThrough t) does is =
+            let e = class_there classes (slice_get classes.by_type.items t) y is in
+            let past = e.1.1 in
+            record {
+              function = λ l. absurd (omega (arith, past, l));
+              class = λ c at h member.
+                  let one : c ≡ e.0 = omega (arith, past, at) in
+                  after_calls m f w h (led.function (doer_below w (CallsThrough t) does))
+                  (does_through m w t h does ((targets t h).0 (e.0, (e.1.0, member ∙ ap (λ (k : ℕ). Some (Some k)) one))));
+            }
+        by (Touches x) does is = absurd cc
+        by (Writes x) does is = absurd cc
+    onward w y led (inr (c, (is, e))) =
+        let lt = member_below y c is in
+        record { function = λ l. led.class c e y is; class = λ k past. absurd (omega (arith, lt, past)) }
+
+    led : (y : ℕ) → graph.Reached Root E y → Led y
+    led y (root r) =
+        let at = (roots y).0 r in
+        record { function = λ l. subst (Reached m f) (sym at) itself; class = λ c past. absurd (omega (arith, lf, at, past)) }
+    led y (step w r e) = onward w y (led w r) ((edges w y).0 e)
+
+    over_calls : (g h : ℕ) → Reached m g h → IsFunction m h → graph.Reached Root E g → graph.Reached Root E h
+    over_calls g h itself lh at = at
+    over_calls g h (after_call k calls rest) lh at =
+        let lk = reached_below m k h rest lh in
+        over_calls k h rest lh (⊎_elim
+        (λ e. step g at ((edges g k).1 e))
+        (λ e. step (functions classes + e.0) (step g at ((edges g (functions classes + e.0)).1 e.1.1))
+        ((edges (functions classes + e.0) k).1 (inr (e.0, (e.1.0, refl)))))
+        (call_edges g k (omega (arith, same, lk)) calls))
+
+    pub led_exact : (h : ℕ) → IsFunction m h → graph.Reached Root E h ↔ Reached m f h
+    led_exact h lh = (λ r. (led h r).function (omega (arith, same, lh)), λ r. over_calls f h r lh (root ((roots f).1 refl)))

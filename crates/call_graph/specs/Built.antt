@@ -1,5 +1,5 @@
 -- How the tables of a graph are made: the nodes that lead to a node pass on to it what is said of theirs.
-use Rattle.std.specs.Prelude.{◌≡◌, ◌↔◌, ℕ, ◌+◌, ◌<◌, ◌⊎◌, List, Some, map, slice_get}
+use Rattle.std.specs.Prelude.{◌≡◌, ◌↔◌, ℕ, ◌<◌, ◌≤◌, ◌⊎◌, List, Some, length, slice_get}
 use Rattle.std.specs.List.{Contains, filter_map}
 use Rattle.worklist.specs.declared.labels.Root.{Root}
 use Rattle.worklist.specs.Lists.{Has}
@@ -10,7 +10,7 @@ use Rattle.call_graph.specs.declared.calls.CallGraph.{CallGraph}
 use Rattle.call_graph.specs.declared.classes.Classes.{Classes}
 use Rattle.call_graph.specs.declared.pairs.Pairs.{Pairs}
 use Rattle.call_graph.specs.Edges.{functions, edge_of, IsMember}
-use Rattle.call_graph.specs.Labels.{own_at, touch_root, write_root}
+use Rattle.call_graph.specs.Labels.{touch_root, write_root}
 use Rattle.call_graph.specs.Pairs.{HasPair}
 
 -- a node leads to another
@@ -22,17 +22,11 @@ abbrev pub IsSpread : Classes → List Act → List Root → Pairs → Type 0
 IsSpread classes acts roots pairs =
     (f o : ℕ) → HasPair pairs f o ↔ ((f < functions classes) × Reached (IsRootOf roots o) (λ x y. IsEdge classes acts y x) f)
 
--- the nodes, in any order
-abbrev pub AreNodes : Classes → List ℕ → Type 0
-AreNodes classes order = (x : ℕ) → Contains order x ↔ (x < functions classes + classes.count)
-
 pub record IsGraphBy (classes : Classes) (acts : List Act) (g : CallGraph) : Type 0 where
-  pub nodes : List ℕ
-  pub are_nodes : AreNodes classes nodes
   pub same : g.classes ≡ classes
-  pub calls : (f y : ℕ) → HasPair g.calls f y ↔ ((f < functions classes) × IsEdge classes acts f y)
+  pub nodes : functions classes ≤ length g.callees.next.items
+  pub callees : (f y : ℕ) → Has g.callees.next.items f y ↔ IsEdge classes acts f y
   pub callers : (f y : ℕ) → Has g.callers.next.items y f ↔ IsEdge classes acts f y
-  pub reached : IsSpread classes acts (map own_at nodes) g.reached
   pub touches : IsSpread classes acts (filter_map touch_root acts) g.touches
   pub writes : IsSpread classes acts (filter_map write_root acts) g.writes
   pub members : (c f : ℕ) → Has g.members.items c f ↔ (slice_get classes.by_func.items f ≡ Some (Some c))

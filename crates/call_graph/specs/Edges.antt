@@ -6,6 +6,8 @@ use Rattle.call_graph.specs.declared.deeds.Deed.{Deed}
 use Rattle.call_graph.specs.declared.deeds.Deed.TheVariants.{Calls, CallsThrough}
 use Rattle.call_graph.specs.declared.acts.Act.{Act}
 use Rattle.call_graph.specs.declared.edges.Edge.{Edge}
+use Rattle.call_graph.specs.declared.edges.Way.{Way}
+use Rattle.call_graph.specs.declared.edges.Way.TheVariants.{Callees, Callers}
 use Rattle.call_graph.specs.declared.classes.Classes.{Classes}
 use Rattle.call_graph.specs.Deeds.{Does}
 
@@ -31,6 +33,11 @@ target_of classes _ = None
 
 abbrev pub edge_of : Classes → Act → Option Edge
 edge_of classes a = option_map (λ (to : ℕ). record { from = a.func; to = to }) (target_of classes a.deed)
+
+-- as it is, or turned round
+abbrev pub edge_along : Way → Edge → Edge
+edge_along Callees e = e
+edge_along Callers e = record { from = e.to; to = e.from }
 
 -- it leads from a class to a function of the class
 abbrev pub IsMember : Classes → Edge → Type 0

@@ -1,5 +1,5 @@
 -- What the graph of a module's calls tells, and which is the graph of a module.
-use Rattle.std.specs.Prelude.{◌≡◌, ◌↔◌, ℕ, ◌+◌, ◌<◌, ◌⊎◌, Some, length, slice_get}
+use Rattle.std.specs.Prelude.{◌≡◌, ◌↔◌, ℕ, ◌+◌, ◌<◌, ◌≤◌, ◌⊎◌, [], ◌∷◌, Some, length, slice_get}
 use Rattle.std.specs.List.{Contains}
 use Rattle.wasm_types.specs.declared.instr.Instr.{Instr}
 use Rattle.wasm_types.specs.declared.module.Module.{Module}
@@ -11,17 +11,31 @@ use Rattle.wasm_types.specs.Spaces.{func_types}
 use Rattle.flow_domain.specs.Reach.{CallsFunc, LiveIn, MayWrite, Reached}
 use Rattle.flow_domain.specs.Touch.{MayTouch}
 use Rattle.worklist.specs.Lists.{Has}
+use Rattle.worklist.specs.Reached as graph
+use Rattle.worklist.specs.Search.{IsMarked}
 use Rattle.call_graph.specs.declared.pairs.Pairs.{Pairs}
 use Rattle.call_graph.specs.declared.calls.CallGraph.{CallGraph}
+use Rattle.call_graph.specs.declared.reached.Reached.{Reached as Found}
 use Rattle.call_graph.specs.Edges.{functions}
 use Rattle.call_graph.specs.Labels.{label_of}
 use Rattle.call_graph.specs.Pairs.{HasPair}
 use Rattle.call_graph.specs.Tells.{AreAlike, TellsTargets}
 
+-- a function leads to a node
+abbrev pub LeadsTo : CallGraph → ℕ → ℕ → Type 0
+LeadsTo g f y = (f < functions g.classes) × Has g.callees.next.items f y
+
 -- a function leads to another, or to the class of the other
 abbrev pub TellsCall : CallGraph → ℕ → ℕ → Type 0
-TellsCall g f h =
-    HasPair g.calls f h ⊎ ((c : ℕ) × ((slice_get g.classes.by_func.items h ≡ Some (Some c)) × HasPair g.calls f (functions g.classes + c)))
+TellsCall g f h = LeadsTo g f h ⊎ ((c : ℕ) × ((slice_get g.classes.by_func.items h ≡ Some (Some c)) × LeadsTo g f (functions g.classes + c)))
+
+-- nodes, one after another, lead from a function to another
+abbrev pub TellsReached : CallGraph → ℕ → ℕ → Type 0
+TellsReached g f h = graph.Reached (Contains (f ∷ [])) (Has g.callees.next.items) h
+
+-- it has just the functions that calls lead to from function f
+abbrev pub IsReachedFrom : Module → ℕ → Found → Type 0
+IsReachedFrom m f found = (h : ℕ) → IsFunction m h → IsMarked found.met.items h ↔ Reached m f h
 
 -- the lists of callers have a function among those of another: by number, or through the class of the other
 abbrev pub TellsCaller : CallGraph → ℕ → ℕ → Type 0
@@ -47,7 +61,8 @@ pub record IsCallGraph (m : Module) (g : CallGraph) : Type 0 where
   pub calls : (f h : ℕ) → IsFunction m h → TellsCall g f h ↔ CallsFunc m f h
   pub callers : (h f : ℕ) → IsFunction m h → TellsCaller g h f ↔ CallsFunc m f h
   pub numbers : (h f : ℕ) → IsFunction m h → TellsNumber g h f ↔ CallsNumber m f h
-  pub reached : (f h : ℕ) → IsFunction m f → IsFunction m h → HasPair g.reached f h ↔ Reached m f h
+  pub nodes : functions g.classes ≤ length g.callees.next.items
+  pub reached : (f h : ℕ) → IsFunction m f → IsFunction m h → TellsReached g f h ↔ Reached m f h
   pub touches : (f : ℕ) (x : Loc) → TellsLoc g.touches f x ↔ MayTouch m f x
   pub writes : (f : ℕ) (x : Loc) → TellsLoc g.writes f x ↔ MayWrite m f x
   pub members : (c f : ℕ) → Has g.members.items c f ↔ (slice_get g.classes.by_func.items f ≡ Some (Some c))

@@ -16,10 +16,6 @@ label_of loc.Size = Some 1
 label_of loc.Host = Some 2
 label_of (loc.Global k) = Some (k + 3)
 
--- a node's own number
-abbrev pub own_at : ℕ → Root
-own_at x = record { label = x; node = x }
-
 abbrev pub root_at : ℕ → Option ℕ → Option Root
 root_at f label = option_map (λ (o : ℕ). record { label = o; node = f }) label
 

@@ -6,35 +6,36 @@ ghost use Rattle.wasm_types.specs.declared.module.Module.{Module};
 ghost use Rattle.wasm_types.specs.Spaces.{func_types, globals_of};
 ghost use Rattle.worklist.specs.declared.labels.Root.{Root};
 ghost use Rattle.worklist.specs.Lists.{Has};
-ghost use Rattle.worklist.specs.Reached.{Reached};
+ghost use Rattle.worklist.specs.Reached.{Reached as IsReached};
 ghost use Rattle.worklist.specs.Roots.{IsRootOf};
 ghost use Rattle.call_graph.specs.declared.acts.Act.{Act};
 ghost use Rattle.call_graph.specs.declared.edges.Edge.{Edge};
 ghost use Rattle.call_graph.specs.Built.{IsGraphBy};
 ghost use Rattle.call_graph.specs.Edges.{class_in};
-ghost use Rattle.call_graph.specs.Graph.{IsCallGraph, TellsCaller, TellsLoc, TellsNumber};
+ghost use Rattle.call_graph.specs.Graph.{IsCallGraph, IsReachedFrom, LeadsTo, TellsCaller, TellsLoc, TellsNumber};
 ghost use Rattle.call_graph.specs.Pairs.{HasPair};
 ghost use Rattle.call_graph.specs.Tells.{HasClass};
 
 use crate::acts::{Act, acts_of};
 use crate::classes::Classes;
-use crate::edges::{Edge, callers, count_nodes, edges_of, members_of};
-use crate::labels::{columns, label, own, touches, writes};
+use crate::edges::{Edge, Way, count_nodes, edges_of, lists_of, members_of};
+use crate::labels::{columns, label, touches, writes};
 use crate::order::{order_of, those_below};
 use crate::pairs::Pairs;
+use crate::reached::Reached;
 use body_check::Spaces;
 use std::alloc::Global;
 use wasm_types::{Loc, Module, NoMemory, ValidModule};
-use worklist::{ListGraph, Root};
+use worklist::{ListGraph, Root, reach};
 
 /// What the functions of a module call, reach, touch and write (docs/ANALYSES.md, "What functions write").
 #[derive(Drop)]
 pub struct CallGraph {
     classes: Classes,
-    calls: Pairs,
+    /// For each node the nodes that it leads to.
+    callees: ListGraph,
     /// For each node the nodes that lead to it.
     callers: ListGraph,
-    reached: Pairs,
     touches: Pairs,
     writes: Pairs,
     /// For each class its functions.
@@ -53,7 +54,7 @@ fn spread(
     requires count { count ≤ length callers.now.next.items }
     requires order { (x : ℕ) → Contains order.now x ↔ (x < length callers.now.next.items) }
     requires nodes { All (λ (root : Root). root.node < length callers.now.next.items) roots.now }
-    ensures { IfOk result (λ pairs. (x o : ℕ) → HasPair pairs x o ↔ ((x < count) × Reached (IsRootOf roots.now o) (Has callers.now.next.items) x)) }
+    ensures { IfOk result (λ pairs. (x o : ℕ) → HasPair pairs x o ↔ ((x < count) × IsReached (IsRootOf roots.now o) (Has callers.now.next.items) x)) }
 {
     let columns = columns(roots)?;
     let pairs = Pairs::of_labels(alloc, count, columns, callers, order, roots)?;
@@ -65,7 +66,7 @@ fn order_by(alloc: Global, nodes: usize, edges: &[Edge]) -> Result<Vec<usize>, N
     requires { All (λ (e : Edge). (e.from < nodes) × (e.to < nodes)) edges.now }
     ensures { IfOk result (λ order. (x : ℕ) → Contains order.items x ↔ (x < nodes)) }
 {
-    let callers = callers(alloc, nodes, edges)?;
+    let callers = lists_of(alloc, nodes, edges, Way::Callers)?;
     let mut order = order_of(alloc, callers)?;
     order.reverse();
     Ok(order)
@@ -79,11 +80,9 @@ fn graph_by(alloc: Global, classes: Classes, acts: &[Act]) -> Result<CallGraph, 
     let count = classes.by_func.len();
     let nodes = count_nodes(&classes);
     let edges = edges_of(alloc, &classes, acts)?;
-    let calls = Pairs::of_edges(alloc, count, nodes, &edges)?;
     let order = order_by(alloc, nodes, &edges)?;
-    let callers = callers(alloc, nodes, &edges)?;
-    let numbered = own(alloc, &order)?;
-    let reached = spread(alloc, count, &callers, &order, &numbered)?;
+    let callees = lists_of(alloc, nodes, &edges, Way::Callees)?;
+    let callers = lists_of(alloc, nodes, &edges, Way::Callers)?;
     let touched = touches(alloc, acts)?;
     let touches = spread(alloc, count, &callers, &order, &touched)?;
     let written = writes(alloc, acts)?;
@@ -92,9 +91,8 @@ fn graph_by(alloc: Global, classes: Classes, acts: &[Act]) -> Result<CallGraph, 
     let functions = those_below(alloc, count, &order)?;
     Ok(CallGraph {
         classes,
-        calls,
+        callees,
         callers,
-        reached,
         touches,
         writes,
         members,
@@ -124,7 +122,7 @@ pub fn graph(alloc: Global, m: &ValidModule) -> Result<CallGraph, NoMemory>
 }
 
 impl CallGraph {
-    ghost use Rattle.flow_domain.specs.Reach.{CallsFunc, MayWrite, Reached as Reaches};
+    ghost use Rattle.flow_domain.specs.Reach.{CallsFunc, MayWrite};
     ghost use Rattle.flow_domain.specs.Rows.{Target};
     ghost use Rattle.flow_domain.specs.Touch.{MayTouch};
     ghost use Rattle.wasm_types.specs.Hosts.{IsFunction};
@@ -161,26 +159,43 @@ impl CallGraph {
         }
     }
 
-    /// Whether an instruction at a live position of a function calls another, by its number or through the table. No function is called that isn't there.
-    pub fn calls(&self, func: u32, other: u32) -> bool
-        ensures { (m : Module) → IsCallGraph m self.now → IsFunction m other → (IsTrue result ↔ CallsFunc m func other) }
+    /// Whether a function leads to a node.
+    fn leads(&self, func: usize, node: usize) -> bool
+        ensures { IsTrue result ↔ LeadsTo self.now func node }
     {
-        if self.calls.has(func as usize, other as usize) {
-            return true;
-        }
-        match self.class_of(other as usize) {
-            Some(class) => self
-                .calls
-                .has(func as usize, self.classes.by_func.len() + class),
+        match self.callees.next.get(func) {
+            Some(nodes) => func < self.classes.by_func.len() && nodes.contains(&node),
             None => false,
         }
     }
 
-    /// Whether calls, one after another, lead from a function to another: to itself, too.
-    pub fn reached(&self, func: u32, other: u32) -> bool
-        ensures { (m : Module) → IsCallGraph m self.now → IsFunction m func → IsFunction m other → (IsTrue result ↔ Reaches m func other) }
+    /// Whether an instruction at a live position of a function calls another, by its number or through the table. No function is called that isn't there. It
+    /// takes time by what the function calls, so a loop over all functions asks `reached` or `push_callers` once instead.
+    pub fn calls(&self, func: u32, other: u32) -> bool
+        ensures { (m : Module) → IsCallGraph m self.now → IsFunction m other → (IsTrue result ↔ CallsFunc m func other) }
     {
-        self.reached.has(func as usize, other as usize)
+        if self.leads(func as usize, other as usize) {
+            return true;
+        }
+        match self.class_of(other as usize) {
+            Some(class) => self.leads(func as usize, self.classes.by_func.len() + class),
+            None => false,
+        }
+    }
+
+    /// The functions that calls, one after another, lead to from one of them. The search takes time and room by the number of nodes, and time by the calls of
+    /// those that it meets. It fails only where an allocation is refused.
+    pub fn reached(&self, alloc: Global, func: u32) -> Result<Reached, NoMemory>
+        ensures { IfOk result (λ reached. (m : Module) → IsCallGraph m self.now → IsFunction m func → IsReachedFrom m func reached) }
+    {
+        let root = func as usize;
+        if root >= self.callees.next.len() {
+            return Ok(Reached {
+                met: Vec::new(alloc),
+            });
+        }
+        let met = reach(alloc, &self.callees, &[root])?;
+        Ok(Reached { met })
     }
 
     /// Whether a function that is reached reads, checks or writes a location. No local is touched so.

@@ -4,7 +4,7 @@ ghost use Rattle.std.specs.Prelude.{◌≡◌, ℕ, ◌+◌, ◌++◌, ◌<◌, 
 ghost use Rattle.std.specs.List.{All, Contains, filter_map};
 ghost use Rattle.worklist.specs.Lists.{Has};
 ghost use Rattle.call_graph.specs.declared.edges.Edge.{Edge};
-ghost use Rattle.call_graph.specs.Edges.{edge_of, target_of, IsMember};
+ghost use Rattle.call_graph.specs.Edges.{edge_along, edge_of, target_of, IsMember};
 
 use crate::acts::Act;
 use crate::classes::Classes;
@@ -130,15 +130,41 @@ fn push_at(lists: &mut Vec<Vec<usize>>, list: usize, number: usize) -> Result<()
     Ok(())
 }
 
-/// For each node the nodes that lead to it, each once where the edges from one node stand together. It fails only where an allocation is refused.
-pub(crate) fn callers(alloc: Global, count: usize, edges: &[Edge]) -> Result<ListGraph, NoMemory>
+/// What the list of a node has: those that it leads to, or those that lead to it.
+#[derive(Clone, Copy)]
+pub(crate) enum Way {
+    Callees,
+    Callers,
+}
+
+/// An edge, from the node of the list to the node in it.
+fn along(edge: Edge, way: Way) -> Edge
+    ensures { result ≡ edge_along way edge }
+{
+    match way {
+        Way::Callees => edge,
+        Way::Callers => Edge {
+            from: edge.to,
+            to: edge.from,
+        },
+    }
+}
+
+/// For each node its list, which has a node once where the edges of the two stand together. It fails only where an allocation is refused.
+pub(crate) fn lists_of(
+    alloc: Global,
+    count: usize,
+    edges: &[Edge],
+    way: Way,
+) -> Result<ListGraph, NoMemory>
     requires { All (λ (e : Edge). (e.from < count) × (e.to < count)) edges.now }
     ensures length { IfOk result (λ graph. length graph.next.items ≡ count) }
-    ensures exact { IfOk result (λ graph. (x y : ℕ) → Has graph.next.items x y ↔ Contains edges.now (record { from = y; to = x })) }
+    ensures exact { IfOk result (λ graph. (x y : ℕ) → Has graph.next.items x y ↔ Contains edges.now (edge_along way (record { from = x; to = y }))) }
 {
     let mut next = empty_lists(alloc, count)?;
     for edge in edges {
-        push_at(&mut next, edge.to, edge.from)?;
+        let edge = along(*edge, way);
+        push_at(&mut next, edge.from, edge.to)?;
     }
     Ok(ListGraph { next })
 }

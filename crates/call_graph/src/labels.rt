@@ -1,9 +1,9 @@
-//! Locations and nodes as labels.
+//! Locations as labels.
 
-ghost use Rattle.std.specs.Prelude.{◌≡◌, ◌<◌, ◌≤◌, IfOk, map};
+ghost use Rattle.std.specs.Prelude.{◌≡◌, ◌<◌, ◌≤◌, IfOk};
 ghost use Rattle.std.specs.List.{All, filter_map};
 ghost use Rattle.worklist.specs.declared.labels.Root.{Root};
-ghost use Rattle.call_graph.specs.Labels.{label_of, own_at, touch_root, write_root};
+ghost use Rattle.call_graph.specs.Labels.{label_of, touch_root, write_root};
 
 use crate::acts::Act;
 use crate::deeds::Deed;
@@ -54,22 +54,6 @@ fn written(act: Act) -> Option<Root>
         }
         _ => None,
     }
-}
-
-/// Each node with its own label, in their order. It fails only where an allocation is refused.
-pub(crate) fn own(alloc: Global, order: &[usize]) -> Result<Vec<Root>, NoMemory>
-    ensures { IfOk result (λ roots. roots.items ≡ map own_at order.now) }
-{
-    let mut roots = Vec::new(alloc);
-    for node in order {
-        roots
-            .push(Root {
-                label: *node,
-                node: *node,
-            })
-            .map_err(|_| NoMemory)?;
-    }
-    Ok(roots)
 }
 
 /// Where the locations that functions touch by themselves begin. It fails only where an allocation is refused.

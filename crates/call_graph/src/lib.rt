@@ -10,7 +10,9 @@ mod hosts;
 mod labels;
 mod order;
 mod pairs;
+mod reached;
 mod rounds;
 mod shape;
 
 pub use calls::{CallGraph, graph};
+pub use reached::Reached;

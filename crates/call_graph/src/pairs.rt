@@ -6,7 +6,6 @@ ghost use Rattle.worklist.specs.Lists.{Has};
 ghost use Rattle.worklist.specs.Reached.{Reached};
 ghost use Rattle.worklist.specs.Roots.{IsRootOf};
 
-use crate::edges::Edge;
 use crate::rounds::spread_labels;
 use std::alloc::Global;
 use wasm_types::NoMemory;
@@ -24,36 +23,12 @@ pub(crate) struct Pairs {
 
 impl Pairs {
     ghost use Rattle.call_graph.specs.Pairs.{HasPair};
-    ghost use Rattle.call_graph.specs.declared.edges.Edge.{Edge};
 
     /// Whether there is the pair: not where there is no such row or column.
     pub(crate) fn has(&self, row: usize, column: usize) -> bool
         ensures { IsTrue result ↔ HasPair self.now row column }
     {
         row < self.rows && column < self.columns && self.bits.has(row, column)
-    }
-
-    /// The edges that lead from the first nodes, so many of them, as pairs. It fails only where an allocation is refused.
-    pub(crate) fn of_edges(
-        alloc: Global,
-        rows: usize,
-        columns: usize,
-        edges: &[Edge],
-    ) -> Result<Pairs, NoMemory>
-        requires { All (λ (e : Edge). e.to < columns) edges.now }
-        ensures { IfOk result (λ pairs. (x y : ℕ) → HasPair pairs x y ↔ ((x < rows) × Contains edges.now (record { from = x; to = y }))) }
-    {
-        let mut bits = BitRows::new(alloc, rows, columns)?;
-        for edge in edges {
-            if edge.from < rows {
-                bits.insert(edge.from, edge.to);
-            }
-        }
-        Ok(Pairs {
-            rows,
-            columns,
-            bits,
-        })
     }
 
     /// For each of the first nodes of a graph, so many of them, the labels whose roots lead to it. It fails only where an allocation is refused.
