@@ -1,6 +1,7 @@
 -- Rows that are added are rows of rounds, and where no rows are to be added all rounds' are there.
 use Rattle.std.proofs.Common.{◌≡◌, ◌↔◌, ℕ, zero, suc, ◌<◌, ◌≤◌, ◌⊎◌, inl, inr, ⊎_elim, List, Bool, true, false, Option, Some, None, IsSome, length, get_or}
 use Rattle.std.proofs.Common.{slice_get, refl, sym, ◌∙◌, subst, arith, length-append}
+use Rattle.std.specs.List.{Contains}
 use Rattle.std.proofs.lemmas.Option.{slice_get_within, slice_get-get_or}
 use Rattle.wasm_types.specs.declared.module.FuncType.{FuncType}
 use Rattle.wasm_types.specs.declared.module.Module.{Module}
@@ -8,7 +9,6 @@ use Rattle.wasm_types.specs.declared.place.Loc.{Loc}
 use Rattle.wasm_types.specs.declared.instr.Instr.{Instr}
 use Rattle.wasm_types.specs.Actions.{Callee, Own, Through}
 use Rattle.wasm_types.specs.Funcs.{Func, func_of, text}
-use Rattle.wasm_types.specs.Hosts.{IsFunction}
 use Rattle.wasm_types.specs.Nodes.{At}
 use Rattle.wasm_types.specs.Spaces.{func_types, func_import, imported, globals_of, import_count, type_of_func, body_of}
 use Rattle.wasm_types.specs.Subset.{HasNoFloat}
@@ -22,7 +22,8 @@ use Rattle.flow_domain.specs.Touch.{IsExact}
 use Rattle.flow_domain.specs.declared.summary.Summary.{Summary}
 use Rattle.flow_domain.specs.declared.summary_table.SummaryTable.{SummaryTable}
 use Rattle.call_graph.specs.Graph.{CallsNumber}
-use Rattle.call_graph.proofs.Calling.{calls_below}
+use Rattle.call_graph.proofs.Calling.{after_calls}
+use Rattle.called_rows.specs.Funcs.{AnyOf}
 use Rattle.flow_laws.proofs.Sound.{any_round_holds}
 use Rattle.summary_fix.specs.declared.rounds.Growth.{Growth}
 use Rattle.summary_fix.specs.Settled.{IsApart, IsClosed, IsSound, IsFull}
@@ -241,14 +242,21 @@ least_table m valid integer t sound full W exact f o x known =
 
 -- ---- from one function on
 
-after_calls : (m : Module) (f g h : ℕ) → Reached m f g → CallsFunc m g h → Reached m f h
-after_calls m f _ h itself calls = after_call h calls itself
-after_calls m f g h (after_call k first rest) calls = after_call k first (after_calls m k g h rest calls)
+-- where calls lead back, one of the callers is led to
+pub led_back : (m : Module) (f : ℕ) (callers : List ℕ) → ((g : ℕ) → CallsFunc m g f → Contains callers g) → ((g : ℕ) → Contains callers g → CallsFunc m g f)
+    → AnyOf callers (λ g. Reached m f g) ↔ CallsLead m f f
+led_back m f callers all only = (
+  λ (g, (there, rest)). first f g f rest (only g there),
+  λ (g, (calls, rest)). let w = last f g f calls rest in (w.0, (all w.0 w.1.1, w.1.0)),
+)
+  where
+    last : (k g h : ℕ) → CallsFunc m k g → Reached m g h → (w : ℕ) × (Reached m k w × CallsFunc m w h)
+    last k g _ calls itself = (k, (itself, calls))
+    last k g h calls (after_call n next rest) = let w = last g n h next rest in (w.0, (after_call g calls w.1.0, w.1.1))
 
--- whom calls lead to others from is there where these are
-pub reached_there : (m : Module) (f g : ℕ) → Reached m f g → IsFunction m g → IsFunction m f
-reached_there m f _ itself fn = fn
-reached_there m f g (after_call k first rest) fn = calls_below m f k first
+    first : (k g h : ℕ) → Reached m k g → CallsFunc m g h → CallsLead m k h
+    first k _ h itself calls = (h, (calls, itself))
+    first k g h (after_call n next rest) calls = (n, (next, after_calls m n g h rest calls))
 
 -- where calls lead to another function
 pub led_elsewhere : (m : Module) (f g : ℕ) → (g ≡ f → ⊥) → Reached m f g ↔ CallsLead m f g

@@ -1,40 +1,59 @@
 //! The least table of a module.
 
 ghost use Rattle.std.specs.Prelude.{◌≡◌, ◌++◌, ◌∷◌, [], ◌^◌, ◌≤◌, ◌<◌, ◌↔◌, ℕ, IfOk, IsTrue, length, vec_len};
+ghost use Rattle.std.specs.List.{All};
 ghost use Rattle.wasm_types.specs.Hosts.{IsFunction};
 ghost use Rattle.wasm_types.specs.Spaces.{func_types};
 ghost use Rattle.worklist.specs.Search.{IsMarked};
+ghost use Rattle.flow_domain.specs.Reach.{Reached as Reaches};
 ghost use Rattle.flow_domain.specs.Summaries.{IsTableOf};
-ghost use Rattle.call_graph.specs.Graph.{IsCallGraph};
+ghost use Rattle.call_graph.specs.Graph.{IsCallGraph, IsReachedFrom};
+ghost use Rattle.called_rows.specs.Funcs.{AnyOf};
 ghost use Rattle.summary_fix.specs.TwoRuns.{CallsLead, HasExactCover, IsLeastFrom, IsLeastTable, TableAgrees, TableReturns};
 
-use crate::rounds::settle;
+use crate::rounds::{callers_of, settle};
 use crate::start::{push_mark, start_table};
-use call_graph::{CallGraph, graph};
+use call_graph::{CallGraph, Reached, graph};
 use flow_domain::SummaryTable;
 use std::alloc::Global;
 use wasm_types::{NoMemory, ValidModule};
 
-/// Whether calls lead from a function back to it.
-fn leads_back(m: &ValidModule, graph: &CallGraph, root: u32, count: usize) -> bool
-    requires graph { IsCallGraph m.now graph.now }
-    requires root { IsFunction m.now root }
-    requires count { count ≡ length (func_types m.now) }
-    requires few { count ≤ 2 ^ 32 }
-    ensures { IsTrue result ↔ CallsLead m.now root root }
+/// Whether one of some functions is among those that a function reaches.
+fn any_reached(m: &ValidModule, reached: &Reached, root: u32, funcs: &[usize]) -> bool
+    requires reached { IsReachedFrom m.now root reached.now }
+    requires within { All (λ f. IsFunction m.now f) funcs.now }
+    requires few { length (func_types m.now) ≤ 2 ^ 32 }
+    ensures { IsTrue result ↔ AnyOf funcs.now (λ f. Reaches m.now root f) }
 {
-    for func in 0..count {
-        if graph.calls(root, func as u32) && graph.reached(func as u32, root) {
+    for func in funcs {
+        if reached.has(*func as u32) {
             return true;
         }
     }
     false
 }
 
-/// Whether calls lead from a function to another, or to itself, where `back` tells that.
-fn leads_to(m: &ValidModule, graph: &CallGraph, root: u32, func: u32, back: bool) -> bool
+/// Whether calls lead from a function back to it: one that it reaches calls it.
+fn leads_back(
+    alloc: Global,
+    m: &ValidModule,
+    graph: &CallGraph,
+    reached: &Reached,
+    root: u32,
+) -> Result<bool, NoMemory>
     requires graph { IsCallGraph m.now graph.now }
+    requires reached { IsReachedFrom m.now root reached.now }
     requires root { IsFunction m.now root }
+    requires few { length (func_types m.now) ≤ 2 ^ 32 }
+    ensures { IfOk result (λ back. IsTrue back ↔ CallsLead m.now root root) }
+{
+    let callers = callers_of(alloc, m, graph, root as usize, true)?;
+    Ok(any_reached(m, reached, root, &callers))
+}
+
+/// Whether calls lead from a function to another, or to itself, where `back` tells that.
+fn leads_to(m: &ValidModule, reached: &Reached, root: u32, func: u32, back: bool) -> bool
+    requires reached { IsReachedFrom m.now root reached.now }
     requires there { IsFunction m.now func }
     requires back { IsTrue back ↔ CallsLead m.now root root }
     ensures { IsTrue result ↔ CallsLead m.now root func }
@@ -42,7 +61,7 @@ fn leads_to(m: &ValidModule, graph: &CallGraph, root: u32, func: u32, back: bool
     if func == root {
         return back;
     }
-    graph.reached(root, func)
+    reached.has(func)
 }
 
 /// By function whether calls lead to it from one of them.
@@ -60,10 +79,11 @@ fn reached_from(
     ensures long { IfOk result (λ marks. length marks.items ≡ count) }
     ensures exact { IfOk result (λ marks. (f : ℕ) → IsFunction m.now f → (IsMarked marks.items f ↔ CallsLead m.now root f)) }
 {
-    let back = leads_back(m, graph, root, count);
+    let reached = graph.reached(alloc, root)?;
+    let back = leads_back(alloc, m, graph, &reached, root)?;
     let mut marks = Vec::new(alloc);
     for func in 0..count {
-        push_mark(&mut marks, leads_to(m, graph, root, func as u32, back))?;
+        push_mark(&mut marks, leads_to(m, &reached, root, func as u32, back))?;
     }
     Ok(marks)
 }

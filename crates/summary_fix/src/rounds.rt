@@ -191,7 +191,7 @@ fn mark_each(marks: &mut [bool], wanted: &[bool], funcs: &[usize])
 }
 
 /// The functions that call another: those by its number, or all.
-fn callers_of(
+pub(crate) fn callers_of(
     alloc: Global,
     m: &ValidModule,
     graph: &CallGraph,
@@ -203,6 +203,7 @@ fn callers_of(
     ensures within { IfOk result (λ callers. All (λ f. IsFunction m.now f) callers.items) }
     ensures numbers { IfOk result (λ callers. (f : ℕ) → CallsNumber m.now f func → Contains callers.items f) }
     ensures every { IfOk result (λ callers. IsTrue all → (f : ℕ) → CallsFunc m.now f func → Contains callers.items f) }
+    ensures only { IfOk result (λ callers. (f : ℕ) → Contains callers.items f → CallsFunc m.now f func) }
 {
     let mut callers = Vec::new(alloc);
     if all {

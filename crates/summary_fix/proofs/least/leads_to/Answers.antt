@@ -9,6 +9,6 @@ returns-then-func-root c =
 
 pub returns : goal.returns
 returns c =
-    let told = c.reached.ensures c.args.m.now c.requires.graph c.requires.root c.requires.there in
+    let told = c.has.ensures c.args.m.now c.args.root c.requires.reached c.requires.there in
     let led = led_elsewhere c.args.m.now c.args.root c.args.func c.if-func-root.false in
     (λ on. led.0 (told.0 on), λ leads. told.1 (led.1 leads))

@@ -1,7 +1,9 @@
-use Rattle.std.proofs.Common.{◌≡◌, ◌<◌, false, length, refl, subst}
+use Rattle.std.proofs.Common.{◌≡◌, ◌<◌, ℕ, List, false, length, refl, subst, ⊎_elim}
+use Rattle.std.specs.List.{Contains}
 use Rattle.worklist.proofs.Pushing.{all_gained}
 use Rattle.wasm_types.specs.Spaces.{func_types}
 use Rattle.call_graph.specs.Graph.{TellsCaller, TellsNumber}
+use Rattle.call_graph.proofs.Members.{none_in}
 use Rattle.summary_fix.proofs.LiveSites.{number_calls}
 use Rattle.summary_fix.proofs.rounds.callers_of.Goals as goal
 
@@ -29,3 +31,15 @@ returns-clause-numbers c = λ f calls.
 
 pub returns-clause-every : goal.returns-clause-every
 returns-clause-every c = λ on. let off : c.args.all ≡ false = c.if-all.false in absurd cc
+
+pub returns-then-all-clause-only : goal.returns-then-all-clause-only
+returns-then-all-clause-only c = λ f here. ⊎_elim
+    (λ old. absurd (none_in f (subst (λ (fs : List ℕ). Contains fs f) c.new-callers.ensures.items old)))
+    (λ p. (c.requires.graph.callers c.args.func f c.requires.func).0 p)
+    (c.in_ok-push_callers.ensures.only f here)
+
+pub returns-clause-only : goal.returns-clause-only
+returns-clause-only c = λ f here. ⊎_elim
+    (λ old. absurd (none_in f (subst (λ (fs : List ℕ). Contains fs f) c.new-callers.ensures.items old)))
+    (λ p. number_calls c.args.m.now f c.args.func ((c.requires.graph.numbers c.args.func f c.requires.func).0 p))
+    (c.in_ok-push_number_callers.ensures.only f here)
