@@ -1,5 +1,5 @@
 -- Marks of functions whose rows may have to be made anew.
-use Rattle.std.proofs.Common.{◌≡◌, ◌≢◌, ℕ, zero, suc, replicate, ◌+◌, ◌<◌, ◌≤◌, ◌⊎◌, inl, inr, ⊎_elim, List, Bool, true, false, cond, if◌then◌else◌}
+use Rattle.std.proofs.Common.{◌≡◌, ◌≢◌, ℕ, zero, suc, replicate, ◌+◌, ◌<◌, ◌≤◌, ◌⊎◌, inl, inr, ⊎_elim, List, [], ◌∷◌, Bool, true, false, cond, if◌then◌else◌}
 use Rattle.std.proofs.Common.{not, length, get_or, set, take, refl, sym, ap, ◌∙◌, subst, arith, get_or-set_other}
 use Rattle.std.specs.List.{Contains}
 use Rattle.std.proofs.lemmas.Bool.{cases_eq}
@@ -10,19 +10,29 @@ use Rattle.wasm_types.specs.Spaces.{func_types}
 use Rattle.worklist.specs.Search.{IsMarked}
 use Rattle.flow_domain.specs.declared.summary_table.SummaryTable.{SummaryTable}
 use Rattle.summary_fix.specs.declared.rounds.Growth.{Growth}
-use Rattle.summary_fix.specs.Settled.{IsApart, IsFull, IsSettled}
+use Rattle.summary_fix.specs.Settled.{GrowsOnly, IsApart, IsFull, IsSettled}
 
 off_on : {A : Type 0} (b : Bool) → b ≡ false → b ≡ true → A
 off_on b off on = absurd cc
 
+-- a mark that is there without one of them
+pub unset_on : (marks : List Bool) (func f : ℕ) → IsMarked (set marks func false) f → IsMarked marks f
+unset_on [] func f on = on
+unset_on (b ∷ marks) zero zero on = absurd cc
+unset_on (b ∷ marks) zero (suc f) on = on
+unset_on (b ∷ marks) (suc func) zero on = on
+unset_on (b ∷ marks) (suc func) (suc f) on = unset_on marks func f on
+
 pub settled_after : (m : Module) (t u : SummaryTable) (wanted marks after : List Bool) (func : ℕ) (grew : Growth) → IsSettled m t wanted marks
     → length u.rows.items ≡ length t.rows.items → length after ≡ length u.rows.items → IsFull m u func
     → ((f : ℕ) → IsFull m t f → IsApart m grew f func → IsFull m u f) → ((f : ℕ) → IsMarked (set marks func false) f → IsMarked after f)
-    → ((f : ℕ) → IsMarked wanted f → (IsMarked after f → ⊥) → IsApart m grew f func) → IsSettled m u wanted after
-settled_after m t u wanted marks after func grew settled same long full others kept apart = record {
+    → ((f : ℕ) → IsMarked wanted f → (IsMarked after f → ⊥) → IsApart m grew f func)
+    → ((f : ℕ) → IsMarked after f → IsMarked (set marks func false) f ⊎ IsMarked wanted f) → IsSettled m u wanted after
+settled_after m t u wanted marks after func grew settled same long full others kept apart only = record {
   long = long;
   wanted_long = settled.wanted_long ∙ sym same;
   either = λ f fn want. by f want (settled.either f fn want) (get_or after f false) refl;
+  only = λ f on. ⊎_elim (λ old. settled.only f (unset_on marks func f old)) (λ want. want) (only f on);
 }
   where
     by : (f : ℕ) → IsMarked wanted f → IsFull m t f ⊎ IsMarked marks f → (b : Bool) → get_or after f false ≡ b → IsFull m u f ⊎ IsMarked after f
@@ -40,6 +50,17 @@ not_on false e = refl
 -- where nothing grew, every function is apart
 pub nothing_apart : (m : Module) (grew : Growth) (f func : ℕ) → grew.rows ≡ false → (grew.class ≡ true → grew.rows ≡ true) → IsApart m grew f func
 nothing_apart m grew f func off within = (off_on grew.rows off, λ on. off_on grew.rows off (within on))
+
+-- ---- which functions have new rows
+
+pub grows_then : (P : ℕ → Type 0) (t u v : SummaryTable) → GrowsOnly P t u → GrowsOnly P u v → GrowsOnly P t v
+grows_then P t u v first next = λ f o x row. ⊎_elim (λ was. first f o x was) inr (next f o x row)
+
+-- one of them has
+pub grows_one : (P : ℕ → Type 0) (t u v : SummaryTable) (func : ℕ) → P func → GrowsOnly P t u → GrowsOnly (λ f. f ≡ func) u v → GrowsOnly P t v
+grows_one P t u v func at first next = λ f o x row. ⊎_elim (λ was. first f o x was) (λ e. inr (subst P (sym e) at)) (next f o x row)
+
+-- ---- passes
 
 -- none of the first so many is marked: one more
 pub none_marked : (order : List ℕ) (i : ℕ) (lt : i < length order) (old new : List Bool) → ((f : ℕ) → Contains (take i order) f → IsMarked old f → ⊥)

@@ -35,6 +35,11 @@ pub record IsSettled (m : Module) (t : SummaryTable) (wanted marks : List Bool) 
   pub long : length marks ≡ length t.rows.items
   pub wanted_long : length wanted ≡ length t.rows.items
   pub either : (f : ℕ) → IsFunction m f → IsMarked wanted f → IsFull m t f ⊎ IsMarked marks f
+  pub only : (f : ℕ) → IsMarked marks f → IsMarked wanted f
+
+-- only functions of P have rows that they didn't have
+abbrev pub GrowsOnly : (ℕ → Type 0) → SummaryTable → SummaryTable → Type 0
+GrowsOnly P t u = (f : ℕ) (o : Output) (x : Loc) → TableRows u f o x → TableRows t f o x ⊎ P f
 
 -- what wanted functions call is wanted
 abbrev pub IsClosed : Module → (ℕ → Type 0) → Type 0

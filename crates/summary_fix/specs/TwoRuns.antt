@@ -1,12 +1,12 @@
 -- What the rows of a module's functions leave out has no influence (docs/ANALYSES.md, "Rows").
-use Rattle.std.specs.Prelude.{◌≡◌, ◌↔◌, ℕ, List, Bool, true, false, length, Some}
+use Rattle.std.specs.Prelude.{◌≡◌, ◌↔◌, ℕ, ◌≤◌, List, Bool, true, false, length, Some}
 use Rattle.wasm_types.specs.declared.module.Value.{Value}
 use Rattle.wasm_types.specs.declared.module.Module.{Module}
 use Rattle.wasm_types.specs.declared.place.Loc.{Loc}
 use Rattle.wasm_types.specs.declared.run.Event.{Event}
 use Rattle.wasm_types.specs.declared.module.FuncType.{FuncType}
 use Rattle.wasm_types.specs.Hosts.{IsFunction}
-use Rattle.wasm_types.specs.Spaces.{globals_of, type_of_func}
+use Rattle.wasm_types.specs.Spaces.{globals_of, import_count, type_of_func}
 use Rattle.wasm_types.specs.Subset.{HasNoFloat}
 use Rattle.wasm_types.specs.Validity.{IsValid}
 use Rattle.wasm_meaning.specs.Equality.{EqAt}
@@ -77,6 +77,10 @@ abbrev pub IsLeastFrom : Module → ℕ → SummaryTable → Type 0
 IsLeastFrom m root t =
     (W : Cover) → IsExact m W → (f : ℕ) (o : Output) (x : Loc) → IsFunction m f → CallsLead m root f → IsKnown (length (globals_of m)) o
     → TableRows t f o x ↔ AnyRound (bounds m W) f o x
+
+-- an own function that has rows is led to
+abbrev pub HasLedRows : Module → ℕ → SummaryTable → Type 0
+HasLedRows m root t = (f : ℕ) (o : Output) (x : Loc) → import_count m ≤ f → TableRows t f o x → CallsLead m root f
 
 -- no input in J is in the row of output o of function f
 abbrev pub LeavesOut : SummaryTable → ℕ → Output → (Loc → Bool) → Type 0

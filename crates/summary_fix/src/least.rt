@@ -9,7 +9,7 @@ ghost use Rattle.flow_domain.specs.Reach.{Reached as Reaches};
 ghost use Rattle.flow_domain.specs.Summaries.{IsTableOf};
 ghost use Rattle.call_graph.specs.Graph.{IsCallGraph, IsReachedFrom};
 ghost use Rattle.called_rows.specs.Funcs.{AnyOf};
-ghost use Rattle.summary_fix.specs.TwoRuns.{CallsLead, HasExactCover, IsLeastFrom, IsLeastTable, TableAgrees, TableReturns};
+ghost use Rattle.summary_fix.specs.TwoRuns.{CallsLead, HasExactCover, HasLedRows, IsLeastFrom, IsLeastTable, TableAgrees, TableReturns};
 
 use crate::rounds::{callers_of, settle};
 use crate::start::{push_mark, start_table};
@@ -121,6 +121,7 @@ pub fn summarise_from(
     ensures table { IfOk result (λ t. IsTableOf m.now t) }
     ensures cover { IfOk result (λ _. HasExactCover m.now) }
     ensures exact { IfOk result (λ t. IsLeastFrom m.now root t) }
+    ensures led { IfOk result (λ t. HasLedRows m.now root t) }
 {
     let mut table = start_table(alloc, m, graph)?;
     let wanted = reached_from(alloc, m, graph, root, table.count())?;

@@ -9,7 +9,7 @@ ghost use Rattle.flow_domain.specs.Reach.{CallsFunc};
 ghost use Rattle.flow_domain.specs.Summaries.{table_room};
 ghost use Rattle.call_graph.specs.Graph.{CallsNumber, IsCallGraph};
 ghost use Rattle.called_rows.specs.Classes.{IsTargetTable};
-ghost use Rattle.summary_fix.specs.Settled.{IsApart, IsFull, IsSettled, IsSound};
+ghost use Rattle.summary_fix.specs.Settled.{GrowsOnly, IsApart, IsFull, IsSettled, IsSound};
 
 use call_graph::CallGraph;
 use called_rows::TargetTable;
@@ -62,6 +62,7 @@ fn add_rows(
     ensures others { IfOk result (λ grew. (f : ℕ) → IsFull m.now table.old f → IsApart m.now grew f func → IsFull m.now table.new f) }
     ensures room { IfOk result (λ grew. table_room table.new + (if grew.rows then 1 else 0) ≤ table_room table.old) }
     ensures within { IfOk result (λ grew. IsTrue grew.class → IsTrue grew.rows) }
+    ensures only { IfOk result (λ _. GrowsOnly (λ f. f ≡ func) table.old table.new) }
 {
     let rows = flow_rows(alloc, m, func, graph, table, targets)?;
     let wide = targets.add(graph, func, &rows);
@@ -88,6 +89,7 @@ fn add_all(
     ensures others { IfOk result (λ wide. (f : ℕ) → IsFull m.now table.old f → (CallsNumber m.now f func → ⊥) → (IsTrue wide → CallsFunc m.now f func → ⊥)
         → IsFull m.now table.new f) }
     ensures room { IfOk result (λ _. table_room table.new ≤ table_room table.old) }
+    ensures only { IfOk result (λ _. GrowsOnly (λ f. f ≡ func) table.old table.new) }
 {
     let mut wide = false;
     loop {
@@ -119,6 +121,7 @@ fn fill_own(
     ensures others { IfOk result (λ grew. (f : ℕ) → IsFull m.now table.old f → IsApart m.now grew f func → IsFull m.now table.new f) }
     ensures room { IfOk result (λ grew. table_room table.new + (if grew.rows then 1 else 0) ≤ table_room table.old) }
     ensures within { IfOk result (λ grew. IsTrue grew.class → IsTrue grew.rows) }
+    ensures only { IfOk result (λ _. GrowsOnly (λ f. f ≡ func) table.old table.new) }
 {
     let grew = add_rows(alloc, m, graph, table, targets, func)?;
     if !grew.rows {
@@ -153,6 +156,7 @@ fn fill(
     ensures others { IfOk result (λ grew. (f : ℕ) → IsFull m.now table.old f → IsApart m.now grew f func → IsFull m.now table.new f) }
     ensures room { IfOk result (λ grew. table_room table.new + (if grew.rows then 1 else 0) ≤ table_room table.old) }
     ensures within { IfOk result (λ grew. IsTrue grew.class → IsTrue grew.rows) }
+    ensures only { IfOk result (λ _. GrowsOnly (λ f. f ≡ func) table.old table.new) }
 {
     match m.module().body(func) {
         Some(_) => {
@@ -172,6 +176,7 @@ fn mark(marks: &mut [bool], wanted: &[bool], func: usize)
     requires wanted { length wanted.now ≡ length marks.old }
     ensures kept { (f : ℕ) → IsMarked marks.old f → IsMarked marks.new f }
     ensures marked { IsMarked wanted.now func → IsMarked marks.new func }
+    ensures only { (f : ℕ) → IsMarked marks.new f → IsMarked marks.old f ⊎ IsMarked wanted.now f }
 {
     if wanted[func] {
         marks[func] = true;
@@ -184,6 +189,7 @@ fn mark_each(marks: &mut [bool], wanted: &[bool], funcs: &[usize])
     requires wanted { length wanted.now ≡ length marks.old }
     ensures kept { (f : ℕ) → IsMarked marks.old f → IsMarked marks.new f }
     ensures all { (f : ℕ) → Contains funcs.now f → IsMarked wanted.now f → IsMarked marks.new f }
+    ensures only { (f : ℕ) → IsMarked marks.new f → IsMarked marks.old f ⊎ IsMarked wanted.now f }
 {
     for func in funcs {
         mark(marks, wanted, *func);
@@ -231,6 +237,7 @@ fn mark_callers(
     ensures kept { (f : ℕ) → IsMarked marks.old f → IsMarked marks.new f }
     ensures numbers { IfOk result (λ _. (f : ℕ) → CallsNumber m.now f func → IsMarked wanted.now f → IsMarked marks.new f) }
     ensures every { IfOk result (λ _. IsTrue all → (f : ℕ) → CallsFunc m.now f func → IsMarked wanted.now f → IsMarked marks.new f) }
+    ensures only { IfOk result (λ _. (f : ℕ) → IsMarked marks.new f → IsMarked marks.old f ⊎ IsMarked wanted.now f) }
 {
     let callers = callers_of(alloc, m, graph, func, all)?;
     mark_each(marks, wanted, &callers);
@@ -259,6 +266,7 @@ fn refresh(
     ensures settled { IfOk result (λ _. IsSettled m.now table.new wanted.now marks.new) }
     ensures room { IfOk result (λ grew. table_room table.new + (if grew then 1 else 0) ≤ table_room table.old) }
     ensures full { IfOk result (λ grew. grew ≡ false → (f : ℕ) → IsMarked marks.new f → IsMarked marks.old f × (f ≢ func)) }
+    ensures only { IfOk result (λ _. GrowsOnly (λ f. f ≡ func) table.old table.new) }
 {
     marks[func] = false;
     let grew = fill(alloc, m, graph, table, targets, func as u32)?;
@@ -289,6 +297,7 @@ fn pass(
     ensures settled { IfOk result (λ _. IsSettled m.now table.new wanted.now marks.new) }
     ensures room { IfOk result (λ grew. table_room table.new + (if grew then 1 else 0) ≤ table_room table.old) }
     ensures full { IfOk result (λ grew. grew ≡ false → (f : ℕ) → Contains order.now f → IsMarked marks.new f → ⊥) }
+    ensures only { IfOk result (λ _. GrowsOnly (IsMarked wanted.now) table.old table.new) }
 {
     let mut grew = false;
     for func in order {
@@ -301,8 +310,8 @@ fn pass(
     Ok(grew)
 }
 
-/// Adds rows to those of wanted functions until no round adds any, callees first where no cycle leads back. Only functions that call one whose rows
-/// grew are taken up again. It fails only where memory is refused.
+/// Adds rows to those of wanted functions, and of no others, until no round adds any, callees first where no cycle leads back. Only functions that call one
+/// whose rows grew are taken up again. It fails only where memory is refused.
 pub(crate) fn settle(
     alloc: Global,
     m: &ValidModule,
@@ -315,6 +324,7 @@ pub(crate) fn settle(
     requires wanted { length wanted.now ≡ vec_len table.old.rows }
     ensures sound { IfOk result (λ _. IsSound m.now table.new) }
     ensures full { IfOk result (λ _. (f : ℕ) → IsFunction m.now f → IsMarked wanted.now f → IsFull m.now table.new f) }
+    ensures only { IfOk result (λ _. GrowsOnly (IsMarked wanted.now) table.old table.new) }
 {
     let mut targets = TargetTable::of(alloc, m, graph, table)?;
     let mut marks = Vec::new(alloc);

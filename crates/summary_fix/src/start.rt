@@ -10,7 +10,7 @@ ghost use Rattle.wasm_types.specs.Spaces.{func_types, globals_of, import_count, 
 ghost use Rattle.worklist.specs.Search.{IsMarked};
 ghost use Rattle.flow_domain.specs.Reach.{MayWrite};
 ghost use Rattle.flow_domain.specs.Rows.{Output as Asked, ImportRows};
-ghost use Rattle.flow_domain.specs.Summaries.{HasInput, IsKnown, IsShape};
+ghost use Rattle.flow_domain.specs.Summaries.{HasInput, IsKnown, IsShape, TableRows};
 ghost use Rattle.call_graph.specs.Graph.{IsCallGraph};
 ghost use Rattle.summary_fix.specs.Settled.{IsSound};
 
@@ -95,7 +95,8 @@ pub(crate) fn start_table(
     graph: &CallGraph,
 ) -> Result<SummaryTable, NoMemory>
     requires { IsCallGraph m.now graph.now }
-    ensures { IfOk result (λ t. IsSound m.now t) }
+    ensures sound { IfOk result (λ t. IsSound m.now t) }
+    ensures own { IfOk result (λ t. (f : ℕ) (o : Asked) (x : Loc) → import_count m.now ≤ f → TableRows t f o x → ⊥) }
 {
     let spaces = Spaces::new(alloc, m.module())?;
     let globals = spaces.globals.len() as u32;

@@ -16,7 +16,7 @@ returns-clause-exact c =
     let made : c.in_ok-wanted.wanted.items ≡ replicate c.count.result true = search rules in
     least_table m sound.sealed.valid sound.sealed.no_float c.settle.new.table sound
     (all_full m c.settle.new.table c.deref.result.now c.count.result (c.deref.ensures.value ∙ made)
-    (c.count.ensures ∙ (start.rows.ok.0 ∙ c.in_ok-table.ensures.table.long)) c.in_ok-settle.ensures.full)
+    (c.count.ensures ∙ (start.rows.ok.0 ∙ c.in_ok-table.ensures.sound.table.long)) c.in_ok-settle.ensures.full)
 
 pub returns-clause-agree : goal.returns-clause-agree
 returns-clause-agree c =
@@ -28,7 +28,7 @@ returns-clause-agree c =
     table_agrees m sound.sealed.valid sound.sealed.no_float (cover_of graph) (cover_exact m graph c.in_ok-graph.ensures) c.settle.new.table
     (least_table m sound.sealed.valid sound.sealed.no_float c.settle.new.table sound
     (all_full m c.settle.new.table c.deref.result.now c.count.result (c.deref.ensures.value ∙ made)
-    (c.count.ensures ∙ (start.rows.ok.0 ∙ c.in_ok-table.ensures.table.long)) c.in_ok-settle.ensures.full))
+    (c.count.ensures ∙ (start.rows.ok.0 ∙ c.in_ok-table.ensures.sound.table.long)) c.in_ok-settle.ensures.full))
 
 pub returns-clause-returns : goal.returns-clause-returns
 returns-clause-returns c =
@@ -40,4 +40,4 @@ returns-clause-returns c =
     table_returns m sound.sealed.valid sound.sealed.no_float (cover_of graph) (cover_exact m graph c.in_ok-graph.ensures) c.settle.new.table
     (least_table m sound.sealed.valid sound.sealed.no_float c.settle.new.table sound
     (all_full m c.settle.new.table c.deref.result.now c.count.result (c.deref.ensures.value ∙ made)
-    (c.count.ensures ∙ (start.rows.ok.0 ∙ c.in_ok-table.ensures.table.long)) c.in_ok-settle.ensures.full))
+    (c.count.ensures ∙ (start.rows.ok.0 ∙ c.in_ok-table.ensures.sound.table.long)) c.in_ok-settle.ensures.full))

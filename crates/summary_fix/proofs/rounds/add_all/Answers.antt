@@ -1,5 +1,5 @@
-use Rattle.std.proofs.Common.{arith, inl, inr}
-use Rattle.summary_fix.proofs.Marking.{not_on, nothing_apart}
+use Rattle.std.proofs.Common.{◌≡◌, arith, inl, inr}
+use Rattle.summary_fix.proofs.Marking.{grows_then, not_on, nothing_apart}
 use Rattle.summary_fix.proofs.rounds.add_all.Goals as goal
 
 pub returns-then-not-grew-clause-full : goal.returns-then-not-grew-clause-full
@@ -19,4 +19,9 @@ loop-grew-preserved c = record {
       let both = c.any-wide.ensures in
       c.in_ok-grew.ensures.others f (c.loop-grew.invariant.others f full number (λ on. every (both.1 (inl on)))) (λ on. number, λ on. every (both.1 (inr on)));
   room = let one = c.in_ok-grew.ensures.room in let so_far = c.loop-grew.invariant.room in omega arith;
+  only = grows_then (λ f. f ≡ c.args.func) c.args.table.now c.loop-grew.table c.add_rows.new.table c.loop-grew.invariant.only c.in_ok-grew.ensures.only;
 }
+
+pub returns-then-not-grew-clause-only : goal.returns-then-not-grew-clause-only
+returns-then-not-grew-clause-only c =
+    grows_then (λ f. f ≡ c.args.func) c.args.table.now c.loop-grew.table c.add_rows.new.table c.loop-grew.invariant.only c.in_ok-grew.ensures.only

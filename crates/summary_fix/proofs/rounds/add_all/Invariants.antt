@@ -3,7 +3,7 @@ use Rattle.flow_domain.specs.Reach.{CallsFunc}
 use Rattle.flow_domain.specs.Summaries.{table_room}
 use Rattle.call_graph.specs.Graph.{CallsNumber}
 use Rattle.called_rows.specs.Classes.{IsTargetTable}
-use Rattle.summary_fix.specs.Settled.{IsFull, IsSound}
+use Rattle.summary_fix.specs.Settled.{GrowsOnly, IsFull, IsSound}
 use Rattle.summary_fix.proofs.rounds.add_all.Given as goal
 
 abbrev pub invariant-loop-grew : goal.invariant-loop-grew
@@ -12,6 +12,7 @@ invariant-loop-grew l = record {
   targets : IsTargetTable l.m l.graph l.table l.targets;
   others : (f : ℕ) → IsFull l.m l.initial.table f → (CallsNumber l.m f l.func → ⊥) → (l.wide ≡ true → CallsFunc l.m f l.func → ⊥) → IsFull l.m l.table f;
   room : table_room l.table ≤ table_room l.initial.table;
+  only : GrowsOnly (λ f. f ≡ l.func) l.initial.table l.table;
 }
 
 abbrev pub decreases-loop-grew : goal.decreases-loop-grew

@@ -1,4 +1,4 @@
-use Rattle.std.proofs.Common.{◌∙◌, sym}
+use Rattle.std.proofs.Common.{◌∙◌, inl, inr, sym, ⊎_elim}
 use Rattle.called_rows.proofs.ClassLemmas.{had_by_targets, takes_rows}
 use Rattle.summary_fix.proofs.Stepping.{own_type, has_known, rows_shape, rows_globals, sound_more, full_more, full_made}
 use Rattle.summary_fix.proofs.Owned.{value_of, body_at}
@@ -46,3 +46,6 @@ returns-clause-others c = λ f full apart.
     (λ on narrow. had_by_targets c.args.m.now c.args.graph.now c.args.table.now c.args.targets.now c.requires.graph c.requires.targets c.args.func c.in_ok-rows.rows
     (c.add-wide.ensures.same (c.growth_of.ensures.wide on narrow)))
     f full apart
+
+pub returns-clause-only : goal.returns-clause-only
+returns-clause-only c = λ f o x row. ⊎_elim inl (λ p. inr p.0) ((c.merge-grew.ensures.merged.rows f o x).0 row)

@@ -1,4 +1,4 @@
-use Rattle.std.proofs.Common.{◌≡◌, None, sym, subst}
+use Rattle.std.proofs.Common.{◌≡◌, None, inl, sym, subst}
 use Rattle.wasm_types.specs.declared.module.Module.{Module}
 use Rattle.wasm_types.specs.Spaces.{body_of}
 use Rattle.summary_fix.proofs.Stepping.{imported_full}
@@ -8,3 +8,6 @@ pub returns-in-None-clause-full : goal.returns-in-None-clause-full
 returns-in-None-clause-full c =
     imported_full c.args.m.now c.args.table.now c.requires.sound.table c.args.func
     (subst (λ (z : Module). body_of z c.args.func ≡ None) c.module.ensures.same (sym c.in-None.ensures))
+
+pub returns-in-None-clause-only : goal.returns-in-None-clause-only
+returns-in-None-clause-only c = λ f o x row. inl row

@@ -1,7 +1,7 @@
 use Rattle.std.proofs.Common.{◌≡◌, true, false, inl, inr, refl}
 use Rattle.flow_domain.specs.Reach.{CallsFunc}
 use Rattle.summary_fix.proofs.LiveSites.{number_calls}
-use Rattle.summary_fix.proofs.Marking.{not_on, nothing_apart}
+use Rattle.summary_fix.proofs.Marking.{grows_then, not_on, nothing_apart}
 use Rattle.summary_fix.proofs.rounds.fill_own.Goals as goal
 
 pub returns-then-not-grew-clause-full : goal.returns-then-not-grew-clause-full
@@ -23,3 +23,7 @@ returns-clause-others c = λ f full apart.
     let both = c.any.ensures in
     let number = apart.0 refl in
     c.in_ok-wide.ensures.others f (c.in_ok-grew.ensures.others f full (λ on. number, λ on. apart.1 (both.1 (inl on)))) number (λ on. apart.1 (both.1 (inr on)))
+
+pub returns-clause-only : goal.returns-clause-only
+returns-clause-only c =
+    grows_then (λ f. f ≡ c.args.func) c.args.table.now c.add_rows.new.table c.add_all.new.table c.in_ok-grew.ensures.only c.in_ok-wide.ensures.only

@@ -26,3 +26,4 @@ returns-in_ok-mark_callers-clause-settled c =
       λ on calls. off (c.in_ok-mark_callers.ensures.numbers f calls want),
       λ on calls. off (c.in_ok-mark_callers.ensures.every on f calls want),
     ))
+    c.in_ok-mark_callers.ensures.only

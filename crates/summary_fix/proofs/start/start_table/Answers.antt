@@ -56,8 +56,8 @@ loop-func-preserved c =
       own = own_pushed m old new s n made so_far.long so_far.own c.in_ok-rows.ensures.own;
     }
 
-pub returns : goal.returns
-returns c =
+pub returns-clause-sound : goal.returns-clause-sound
+returns-clause-sound c =
     let m = c.args.m.now in
     let n = c.loop-func.func in
     let so_far = c.loop-func.invariant in
@@ -69,3 +69,6 @@ returns c =
     let whole : n ≡ length (func_types m) = omega arith in
     let parts = length-append (imported func_import m.imports) m.funcs in
     start_sound m c.loop-func.table n c.module.ensures.sealed so_far.long whole (omega arith) so_far.shapes so_far.imports so_far.globals so_far.own
+
+pub returns-clause-own : goal.returns-clause-own
+returns-clause-own c = c.loop-func.invariant.own
