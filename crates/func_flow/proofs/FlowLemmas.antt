@@ -1,6 +1,6 @@
 -- From what a search finds where a body begins to what the outputs of its function lead to.
 use Rattle.std.proofs.Common.{◌≡◌, ◌↔◌, ℕ, ◌+◌, ◌-◌, ◌*◌, ◌<◌, ◌≤◌, ◌||◌, List, [], Bool, true, false, not, Option, Some, None, IsSome, length, nat_lt}
-use Rattle.std.proofs.Common.{if◌then◌else◌, slice_get, refl, sym, ◌∙◌, subst, arith}
+use Rattle.std.proofs.Common.{if◌then◌else◌, slice_get, refl, sym, ap, ◌∙◌, subst, arith}
 use Rattle.std.proofs.lemmas.Bool.Decides.{nat_tests}
 use Rattle.std.proofs.lemmas.Option.{same_Some}
 use Rattle.wasm_types.specs.declared.module.Body.{Body}
@@ -10,15 +10,17 @@ use Rattle.wasm_types.specs.declared.place.Loc.TheVariants as loc
 use Rattle.wasm_types.specs.declared.place.Node.{Node}
 use Rattle.wasm_types.specs.declared.place.Node.TheVariants.{Exit}
 use Rattle.wasm_types.specs.Code.{Code, done, one, block, repeat, branch, code_of, count}
-use Rattle.wasm_types.specs.Actions.{callees}
+use Rattle.wasm_types.specs.Actions.{Callees, callees}
 use Rattle.wasm_types.specs.Funcs.{unwatched}
 use Rattle.wasm_types.specs.Labels.{first}
 use Rattle.wasm_types.specs.Marked.{marked}
 use Rattle.wasm_types.specs.Sites.{Sites, EndAt, body_sites, body_ends}
 use Rattle.wasm_types.specs.Spaces.{body_of, func_types, import_count}
-use Rattle.block_cfg.specs.Graph.{number}
+use Rattle.block_cfg.specs.Graph.{Graph, number}
+use Rattle.block_cfg.specs.Points.{IsCfgOf}
 use Rattle.block_cfg.specs.Walk.{first_of}
 use Rattle.block_cfg.proofs.SiteLemmas.{first_marked}
+use Rattle.single_entry.specs.Entries.{IsGraph}
 use Rattle.sparse_reach.specs.declared.table.SparseRows.{SparseRows}
 use Rattle.worklist.specs.declared.labels.Root.{Root}
 use Rattle.worklist.specs.Bits.{HasBit}
@@ -43,7 +45,8 @@ use Rattle.func_flow.proofs.Exact.{needed_met}
 use Rattle.func_flow.proofs.Finished.{led_is}
 use Rattle.func_flow.proofs.MetLemmas.{entry_item}
 use Rattle.func_flow.proofs.Right.{right, fits}
-use Rattle.func_flow.proofs.RunLemmas.{order_of, run_reached}
+use Rattle.func_flow.proofs.Rising.{short_met}
+use Rattle.func_flow.proofs.RunLemmas.{order_of}
 use Rattle.func_flow.proofs.Searching.{search_exact, reached_item}
 
 -- ---- where a body begins
@@ -61,6 +64,12 @@ first_low (one op rest) = omega arith
 first_low (block kind inner rest) = omega arith
 first_low (repeat kind inner rest) = omega arith
 first_low (branch kind x y rest) = omega arith
+
+-- the first point is where the body begins
+pub first_begun : (body : Body) (g : Graph) → IsCfgOf body g → slice_get g.points 0 ≡ Some (first_of 0 (code_of body.code) Exit)
+first_begun body g cfg =
+    let cs : Callees = record { type_of = λ f. None; type_at = λ t. None } in
+    (cfg cs 0 unwatched).first ∙ ap Some (first_marked unwatched (code_of body.code) 0 Exit)
 
 -- ---- own functions
 
@@ -107,19 +116,22 @@ input_column G P L loc.Host input ok = (2, refl)
 -- ---- bits
 
 -- the bits that a search by runs sets at the point where a body begins are what the search finds there
-pub met_found : (t : Tables) (r : Runs) → Fits t → AreQuiet t → AreRuns t r → (roots : List Root) → Adds (Begins t.numbering (First t)) [] roots → (met : SparseRows)
+pub met_found : (t : Tables) (r : Runs) → Fits t → AreQuiet t → AreRuns t r → IsGraph t.cfg.now → (roots : List Root)
+    → Adds (Begins t.numbering (First t)) [] roots → (met : SparseRows)
     → ((x o : ℕ) → o < t.numbering.globals + 5
     → HasBit met.words met.bits x o ↔ Reached (IsRootOf roots o) (PackedEdge (IsItem t.numbering) (item_number t.numbering) (Short t r)) x)
-    → (node : Node) → number node < t.numbering.nodes → number node ≤ 1 → (globals params : ℕ) → t.numbering.globals ≡ globals → params ≤ t.numbering.locals
+    → (node : Node) → number node < t.numbering.nodes → number node ≤ 1 → slice_get t.cfg.now.points 0 ≡ Some node
+    → (globals params : ℕ) → t.numbering.globals ≡ globals → params ≤ t.numbering.locals
     → (o : Output) (x : Loc) → IsMet met t.numbering node globals params (3 + globals + params) o x ↔ IsFound t node globals params o x
-met_found t r ok quiet runs roots adds met exact node within low globals params same few o x = (to, from)
+met_found t r ok quiet runs graph roots adds met exact node within low begun globals params same few o x = (to, from)
   where
     told : (row column : ℕ) → row < 5 + globals → column_number globals params x ≡ Some column
         → HasBit met.words met.bits (item_number t.numbering (item.Needed x node)) row ↔ Reached (First t row) (Next t) (item.Needed x node)
     told row column lt c =
-        let short = search_exact t ok t.numbering.some row r (order_of t r runs) roots adds met.words met.bits (λ y. exact y row (omega arith)) (item.Needed x node)
+        let short = search_exact t ok t.numbering.some row r (order_of t r runs) roots adds met.words met.bits (λ y. exact y row (omega arith))
+        (item.Needed x node)
         (entry_item t.numbering globals params node x column same few within c) in
-        let all = run_reached t r quiet runs (First t row) x node low in
+        let all = short_met t r quiet runs graph (First t row) x node low begun in
         (λ bit. all.0 (short.0 bit), λ reached. short.1 (all.1 reached))
 
     to : IsMet met t.numbering node globals params (3 + globals + params) o x → IsFound t node globals params o x

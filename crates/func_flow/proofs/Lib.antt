@@ -7,6 +7,7 @@ pub mod Exact
 pub mod Forward
 pub mod RootLemmas
 pub mod RunLemmas
+pub mod Rising
 pub mod Searching
 pub mod Right
 pub mod Finished

@@ -1,9 +1,10 @@
--- What a search by runs meets is what the search meets.
+-- Where runs lead to the ways are forced.
 use Rattle.std.proofs.Common.{◌≡◌, ◌↔◌, ℕ, zero, suc, ◌+◌, ◌-◌, ◌<◌, ◌≤◌, List, [], ◌∷◌, ◌++◌, Bool, true, false, Option, Some, None, length, get_or}
 use Rattle.std.proofs.Common.{refl, sym, ap, ◌∙◌}
-use Rattle.std.proofs.Common.{is_none, IfSome, length-append, subst, inl, inr, ◌⊎◌, ⊎_elim, arith}
+use Rattle.std.proofs.Common.{is_some, slice_get, IfSome, length-append, subst, inl, inr, ◌⊎◌, ⊎_elim, arith}
 use Rattle.std.specs.List.{Contains}
 use Rattle.std.proofs.lemmas.Bool.{cases_eq, cases_lt}
+use Rattle.std.proofs.lemmas.Option.{slice_get_past, slice_get-get_or}
 use Rattle.std.proofs.lemmas.List.{get_or_append_left, get_or_push, get_or_past}
 use Rattle.wasm_types.specs.declared.module.Pos.{Pos}
 use Rattle.wasm_types.specs.declared.place.Loc.{Loc}
@@ -18,18 +19,23 @@ use Rattle.block_cfg.specs.Graph.{Graph, number, row_of}
 use Rattle.block_cfg.proofs.MemberLemmas.{contains_of}
 use Rattle.slice_closure.proofs.Joined.{among_is}
 use Rattle.flow_domain.specs.LocTables.{WritesIn}
-use Rattle.worklist.specs.Reached.{Reached}
+use Rattle.single_entry.specs.declared.skips.Skips.{Skips}
+use Rattle.single_entry.specs.Climbs.{Climbs, stays, climbs, AreEntries}
+use Rattle.single_entry.proofs.Climbing.{tops_once}
 use Rattle.single_entry.specs.Last.{IsLastOf, HasNoneOf}
 use Rattle.func_flow.specs.declared.items.Item.{Item}
-use Rattle.func_flow.specs.declared.items.Item.TheVariants.{Value, Completion, Decider, Decided, Written, Needed}
+use Rattle.func_flow.specs.declared.items.Item.TheVariants.{Written, Needed}
 use Rattle.func_flow.specs.declared.runs.Runs.{Runs}
 use Rattle.called_rows.specs.declared.instrs.Whom.{Whom}
+use Rattle.func_flow.specs.declared.steps.Step.{Step}
 use Rattle.func_flow.specs.declared.tables.Tables.{Tables}
 use Rattle.func_flow.specs.Items.{node_of}
 use Rattle.func_flow.specs.Next.{AreMarked, whom_at, WritesAs, WrittenAt, Passes, Next}
-use Rattle.func_flow.specs.Runs.{IsLone, GoesOn, IsRun, start_of, AreStarts, is_inner, starts_for, writers_in, IsInOrder, AreRuns, AreQuiet, join_only, entry_at, SettledFrom}
-use Rattle.func_flow.specs.Runs.{Settled, Lands, Short}
-use Rattle.slice_closure.proofs.Passing.{Follows, here, onward, short_reached}
+use Rattle.func_flow.specs.Runs.{IsLone, GoesOn, IsRun, start_of, AreStarts, is_inner, starts_for, writers_in, IsInOrder, AreRuns, AreQuiet, join_only}
+use Rattle.func_flow.specs.Runs.{entry_at, SettledFrom}
+use Rattle.func_flow.specs.Steps.{whom_of}
+use Rattle.func_flow.specs.Runs.{IsCalm, Settled, Lands, may_rise, IsTopBy, IsTopFor, Raises}
+use Rattle.slice_closure.proofs.Passing.{Follows, here, onward}
 use Rattle.func_flow.proofs.Pushes.{writes_is, written_there, join_apart, on_point}
 
 -- ---- runs in order
@@ -42,8 +48,20 @@ run_for t r runs loc.Mem p = runs.outer p
 run_for t r runs loc.Size p = runs.outer p
 run_for t r runs loc.Host p = runs.outer p
 
+-- what is further up has no larger number
+climbs_low : (g : Graph) (s : Skips) → AreEntries g s → (writers : List ℕ) (n a : Node) → Climbs s writers n a → number a ≤ number n
+climbs_low g s entries writers n a stays = omega arith
+climbs_low g s entries writers n a (climbs e from has is quiet more) =
+    let low = climbs_low g s entries writers from a more in
+    let falls = (entries n e has).falls in
+    omega arith
+
 pub order_of : (t : Tables) (r : Runs) → AreRuns t r → IsInOrder r
-order_of t r runs = record { upward = λ x p. (run_for t r runs x p).up; rising = λ x. (runs.writers x).rising }
+order_of t r runs = record {
+  upward = λ x p. (run_for t r runs x p).up;
+  rising = λ x. (runs.writers x).rising;
+  falls = λ writers n a up. climbs_low t.cfg.now r.skips runs.skips writers n a up;
+}
 
 -- ---- lists of one element
 
@@ -100,10 +118,6 @@ starts_push t past xs h n size all new p = elim (cases_lt p n) [
         rw (e, same) new
   ]
 ]
-
-pub none_is : (o : Option Whom) → is_none o ≡ true → o ≡ None
-none_is None e = refl
-none_is (Some w) e = absurd cc
 
 -- a mark that is set is a point's
 pub marked_point : (points : List Node) (N : ℕ) (marks : List Bool) → AreMarked points N marks → (n : Node) (k : ℕ) → k ≡ number n
@@ -230,11 +244,11 @@ passes_once t x b i j (inl (w, e)) (inr (free, e')) = absurd (free w)
 passes_once t x b i j (inr (free, e)) (inl (w, e')) = absurd (free w)
 passes_once t x b i j (inr (free, e)) (inr (free', e')) = e ∙ sym e'
 
-forced_edge : (t : Tables) (i k : Item) → Forced t i k → Next t i k
+pub forced_edge : (t : Tables) (i k : Item) → Forced t i k → Next t i k
 forced_edge t i k f = subst (λ z. Next t z k) (sym f.is)
     (f.lone.0, (f.from, (one_has (row_of t.cfg.now.before (At (suc f.pos))) f.from f.lone.1, f.passes)))
 
-forced_only : (t : Tables) (i k j : Item) → Forced t i k → Next t i j → k ≡ j
+pub forced_only : (t : Tables) (i k j : Item) → Forced t i k → Next t i j → k ≡ j
 forced_only t i k j f e =
     let n = subst (λ z. Next t z j) f.is e in
     let same : n.1.0 ≡ f.from = has_one (row_of t.cfg.now.before (At (suc f.pos))) f.from n.1.0 f.lone.1 n.1.1.0 in
@@ -262,7 +276,7 @@ module _ (t : Tables) (r : Runs) (quiet : AreQuiet t) (runs : AreRuns t r) where
   written_at : (x : Loc) (q : ℕ) → WritesIn t.locs.now q x → WrittenAt t q x
   written_at x q w = subst (λ c. WritesAs t q c x) (sym (quiet.plain q x w)) w
 
-  free_at : (x : Loc) (q : ℕ) → (is_inner x ≡ false → whom_at t q ≡ None) → (Contains (writers_in r x) q → ⊥) → Writes (WrittenAt t) x (At q) → ⊥
+  pub free_at : (x : Loc) (q : ℕ) → (is_inner x ≡ false → whom_at t q ≡ None) → (Contains (writers_in r x) q → ⊥) → Writes (WrittenAt t) x (At q) → ⊥
   free_at x q calm off w = off (((runs.writers x).exact q).1 (plainly x q calm (written_there (WrittenAt t) x q w)))
 
   -- one position back, past one that doesn't write the location
@@ -338,33 +352,45 @@ module _ (t : Tables) (r : Runs) (quiet : AreQuiet t) (runs : AreRuns t r) where
   settles x (node.Join b) = (Needed x (node.Join b), refl)
   settles x node.Exit = (Needed x node.Exit, refl)
 
-  lands_sound : (x : Loc) (b : Node) (j : Item) → Lands t r x b j → (k : Item) × (Passes t x b k × Follows (Forced t) k j)
+  pub lands_sound : (x : Loc) (b : Node) (j : Item) → Lands t r x b j → (k : Item) × (Passes t x b k × Follows (Forced t) k j)
   lands_sound x b j (inl (w, e)) = (j, (inl (w, e), here))
   lands_sound x b j (inr (free, s)) = (Needed x b, (inr (free, refl), settled_follows x b j s))
 
-  lands_complete : (x : Loc) (b : Node) (k : Item) → Passes t x b k → (j : Item) × (Lands t r x b j × Follows (Forced t) k j)
+  pub lands_complete : (x : Loc) (b : Node) (k : Item) → Passes t x b k → (j : Item) × (Lands t r x b j × Follows (Forced t) k j)
   lands_complete x b k (inl (w, e)) = (k, (inl (w, e), here))
   lands_complete x b k (inr (free, e)) =
       let s = settles x b in
       (s.0, (inr (free, s.1), subst (λ z. Follows (Forced t) z s.0) (sym e) (settled_follows x b s.0 s.1)))
 
-  sound : (i j : Item) → Short t r i j → (k : Item) × (Next t i k × Follows (Forced t) k j)
-  sound (Value n) j h = (j, (h, here))
-  sound (Completion n) j h = (j, (h, here))
-  sound (Written x n) j h = (j, (h, here))
-  sound (Decider n) j h = (j, (h, here))
-  sound (Decided n) j h = (j, (h, here))
-  sound (Needed x a) j (point, (b, (has, lands))) = let s = lands_sound x b j lands in (s.0, ((point, (b, (has, s.1.0))), s.1.1))
+-- ---- up past regions
 
-  complete : (i k : Item) → Next t i k → (j : Item) × (Short t r i j × Follows (Forced t) k j)
-  complete (Value n) k h = (k, (h, here))
-  complete (Completion n) k h = (k, (h, here))
-  complete (Written x n) k h = (k, (h, here))
-  complete (Decider n) k h = (k, (h, here))
-  complete (Decided n) k h = (k, (h, here))
-  complete (Needed x a) k (point, (b, (has, passes))) = let c = lands_complete x b k passes in (c.0, ((point, (b, (has, c.1.0))), c.1.1))
+top_once : (r : Runs) (x : Loc) (n a b : Node) (up : Bool) → IsTopBy r x n up a → IsTopBy r x n up b → a ≡ b
+top_once r x n a b true tops tops' = tops_once r.skips (writers_in r x) n a b tops tops'
+top_once r x n a b false e e' = e ∙ sym e'
 
-  -- a search by runs meets what the search meets, of what isn't passed over
-  pub run_reached : (Root : Item → Type 0) (x : Loc) (n : Node) → number n ≤ 1 → Reached Root (Short t r) (Needed x n) ↔ Reached Root (Next t) (Needed x n)
-  run_reached Root x n low = short_reached Root (Next t) (Forced t) (Short t r)
-      (record { edge = forced_edge t; only = forced_only t; sound = sound; complete = complete }) (Needed x n) (begin_free t x n low)
+pub raises_needed : (r : Runs) (x : Loc) (n a : Node) → IsTopFor r x n a → (i : Item) → i ≡ Needed x n → (j : Item) → Raises r i j ↔ (j ≡ Needed x a)
+raises_needed r x n a top i is j = subst (λ z. Raises r z j ↔ (j ≡ Needed x a)) (sym is) (
+  λ (b, (top', e)). e ∙ ap (Needed x) (top_once r x n b a (may_rise r.calm x) top' top),
+  λ e. (a, (top, e)),
+)
+
+-- ---- calls
+
+pub calm_more : (steps : List Step) (i : ℕ) (d : Step) → ((p : ℕ) → p < i → whom_of (slice_get steps p) ≡ None) → i < length steps
+    → (get_or steps i d).whom ≡ None → (p : ℕ) → p < i + 1 → whom_of (slice_get steps p) ≡ None
+calm_more steps i d calm lt free p below = elim (cases_lt p i) [
+  | inl less ↦ calm p less
+  | inr ge ↦
+      let e : i ≡ p = omega arith in
+      subst (λ z. whom_of (slice_get steps z) ≡ None) e (ap whom_of (slice_get-get_or steps i d lt) ∙ free)
+]
+
+pub calm_all : (steps : List Step) (i : ℕ) → ((p : ℕ) → p < i → whom_of (slice_get steps p) ≡ None) → length steps ≤ i → IsCalm steps
+calm_all steps i calm whole p = elim (cases_lt p i) [
+  | inl less ↦ calm p less
+  | inr ge ↦ ap whom_of (slice_get_past steps p (omega arith))
+]
+
+pub not_some : (o : Option Whom) → is_some o ≡ false → o ≡ None
+not_some None e = refl
+not_some (Some w) e = absurd cc

@@ -18,7 +18,8 @@ use Rattle.func_flow.specs.declared.tables.Tables.{Tables}
 use Rattle.func_flow.specs.Items.{IsLoc, IsItem, item_number}
 use Rattle.func_flow.specs.Next.{Fits}
 use Rattle.func_flow.specs.NextLaws.{written_item, needed_item, next_item, item_below}
-use Rattle.func_flow.specs.Runs.{start_of, starts_for, IsInOrder, join_only, entry_at, SettledFrom, Settled, Lands, Short}
+use Rattle.func_flow.specs.Runs.{start_of, starts_for, writers_in, IsInOrder, join_only, entry_at, SettledFrom, Settled, Lands, Short}
+use Rattle.func_flow.specs.Runs.{may_rise, IsTopBy, Raises}
 
 join_below : (b : Bool) (row : List Node) (n : Node) (N : ℕ) → All (λ (m : Node). number m < N) row → number n < N → number (join_only b row n) < N
 join_below true (node.Join b ∷ []) n N all lt = all 0 n (omega arith)
@@ -50,14 +51,29 @@ module _ (t : Tables) (r : Runs) (fits : Fits t) (order : IsInOrder r) where
   lands_item x b j ok lt (inl (w, e)) = written_item K x b j e ok lt
   lands_item x b j ok lt (inr (free, s)) = settled_item x b j ok lt s
 
+  top_low : (x : Loc) (n a : Node) (up : Bool) → IsTopBy r x n up a → number a ≤ number n
+  top_low x n a true tops = order.falls (writers_in r x) n a tops.climbs
+  top_low x n a false e = subst (λ z. number z ≤ number n) (sym e) (omega arith)
+
+  pub raised_item : (i j : Item) → IsItem K i → Raises r i j → IsItem K j
+  raised_item (Value n) j ok e = subst (IsItem K) (sym e) ok
+  raised_item (Completion n) j ok e = subst (IsItem K) (sym e) ok
+  raised_item (Written x n) j ok e = subst (IsItem K) (sym e) ok
+  raised_item (Decider n) j ok e = subst (IsItem K) (sym e) ok
+  raised_item (Decided n) j ok e = subst (IsItem K) (sym e) ok
+  raised_item (Needed x n) j ok (a, (top, e)) =
+      let low = top_low x n a (may_rise r.calm x) top in
+      let below = ok.1 in
+      needed_item K x a j e ok.0 (omega arith)
+
   pub short_item : (i : Item) → IsItem K i → (j : Item) → Short t r i j → IsItem K j
   short_item (Value n) ok j h = next_item t fits (Value n) ok j h
   short_item (Completion n) ok j h = next_item t fits (Completion n) ok j h
   short_item (Written x n) ok j h = next_item t fits (Written x n) ok j h
   short_item (Decider n) ok j h = next_item t fits (Decider n) ok j h
   short_item (Decided n) ok j h = next_item t fits (Decided n) ok j h
-  short_item (Needed x a) ok j (point, (b, (has, lands))) =
-      lands_item x b j ok.0 (All-contains (λ (k : Node). number k < K.nodes) (row_of t.cfg.now.before a) b (fits.before a) has) lands
+  short_item (Needed x a) ok j (point, (b, (has, (k, (lands, raises))))) =
+      raised_item k j (lands_item x b k ok.0 (All-contains (λ (m : Node). number m < K.nodes) (row_of t.cfg.now.before a) b (fits.before a) has) lands) raises
 
 pub short_stays : (t : Tables) (r : Runs) → Fits t → IsInOrder r → (x y : ℕ) → PackedEdge (IsItem t.numbering) (item_number t.numbering) (Short t r) x y
     → y < (2 * (t.numbering.globals + t.numbering.locals) + 10) * t.numbering.nodes

@@ -10,6 +10,7 @@ ghost use Rattle.wasm_types.specs.Subset.{IsSealed};
 ghost use Rattle.block_cfg.specs.Graph.{number};
 ghost use Rattle.block_cfg.specs.Points.{HasPoints};
 ghost use Rattle.block_cfg.specs.Walk.{first_of};
+ghost use Rattle.single_entry.specs.Entries.{IsGraph};
 ghost use Rattle.flow_domain.specs.Bounds.{Cover, bounds};
 ghost use Rattle.flow_domain.specs.LocTables.{row_in};
 ghost use Rattle.flow_domain.specs.Rows.{LedTo, Output as Asked};
@@ -123,6 +124,8 @@ fn search(
     requires begins { number first ≤ 1 }
     requires runs { AreRuns flow.now.tables flow.now.runs.now }
     requires quiet { AreQuiet flow.now.tables }
+    requires graph { IsGraph flow.now.tables.cfg.now }
+    requires begun { slice_get flow.now.tables.cfg.now.points 0 ≡ Some first }
     requires globals { flow.now.tables.numbering.globals ≡ globals }
     requires params { params ≤ flow.now.tables.numbering.locals }
     ensures shape { IfOk result (λ s. IsShape globals params s) }

@@ -3,6 +3,8 @@
 ghost use Rattle.std.specs.Prelude.{◌≡◌, ◌<◌, suc, true, false, None, IfOk, IfSome, MatchOption, length, slice_get};
 ghost use Rattle.wasm_types.specs.Nodes.{At};
 ghost use Rattle.block_cfg.specs.Graph.{number, row_of};
+ghost use Rattle.single_entry.specs.Climbs.{Tops};
+ghost use Rattle.single_entry.specs.Entries.{IsGraph};
 ghost use Rattle.single_entry.specs.Last.{HasNoneOf, IsLastOf};
 ghost use Rattle.func_flow.specs.Next.{AreMarked};
 ghost use Rattle.func_flow.specs.Runs as spec;
@@ -13,10 +15,11 @@ use crate::steps::Step;
 use crate::tables::Tables;
 use block_cfg::point_number;
 use def_use::Writers;
+use single_entry::Skips;
 use std::alloc::Global;
 use wasm_types::{Loc, NoMemory, Node, Point, Pos};
 
-/// By position where its run begins, and the positions that write each location.
+/// By position where its run begins, the positions that write each location, and how far up a location may come from past regions.
 #[derive(Drop)]
 pub(crate) struct Runs {
     /// For locals, which no call writes.
@@ -24,6 +27,9 @@ pub(crate) struct Runs {
     /// For what calls may write: no run goes past a call.
     outer: Vec<u32>,
     writers: Writers,
+    skips: Skips,
+    /// Whether the body calls nothing.
+    calm: bool,
 }
 
 /// The point that leads to a point, where just one does.
@@ -102,20 +108,59 @@ fn starts(
     Ok(starts)
 }
 
+/// Whether none of the positions calls.
+fn is_calm(steps: &[Step]) -> bool
+    ensures { result ≡ true → spec.IsCalm steps.now }
+{
+    for step in steps {
+        if step.whom.is_some() {
+            return false;
+        }
+    }
+    true
+}
+
 impl Runs {
     /// Those of a body, by its tables and by which nodes are points.
     pub(crate) fn new(alloc: Global, tables: &Tables, points: &[bool]) -> Result<Runs, NoMemory>
-        requires { AreMarked tables.now.cfg.now.points tables.now.numbering.nodes points.now }
+        requires marked { AreMarked tables.now.cfg.now.points tables.now.numbering.nodes points.now }
+        requires graph { IsGraph tables.now.cfg.now }
         ensures { IfOk result (λ runs. spec.AreRuns tables.now runs) }
     {
         let inner = starts(alloc, tables, points, true)?;
         let outer = starts(alloc, tables, points, false)?;
         let writers = Writers::new(alloc, tables.locs)?;
+        let skips = Skips::new(alloc, tables.cfg)?;
+        let calm = is_calm(tables.steps);
         Ok(Runs {
             inner,
             outer,
             writers,
+            skips,
+            calm,
         })
+    }
+
+    /// Whether a location may be taken up past regions at once: no call writes it.
+    fn may_rise(&self, loc: Loc) -> bool
+        ensures { result ≡ spec.may_rise self.now.calm loc }
+    {
+        match loc {
+            Loc::Local(_) => true,
+            _ => self.calm,
+        }
+    }
+
+    /// The point furthest up that a location comes from which is needed at a point.
+    pub(crate) fn top(&self, loc: Loc, point: Point) -> Point
+        requires { spec.AreRising self.now }
+        ensures { spec.IsTopFor self.now loc point result }
+    {
+        if self.may_rise(loc) {
+            self.skips.climb(self.writers.of(loc), point)
+        } else {
+            point
+        }
     }
 
     fn starts_for(&self, loc: Loc) -> &[u32]

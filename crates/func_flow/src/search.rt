@@ -16,7 +16,7 @@ ghost use Rattle.func_flow.specs.Items.{IsItem, IsLoc, Numbered, item_number, lo
 ghost use Rattle.called_rows.specs.Whom.{output_of};
 ghost use Rattle.func_flow.specs.Next as spec;
 ghost use Rattle.func_flow.specs.RunLaws.{short_stays};
-ghost use Rattle.func_flow.specs.Runs.{IsInOrder, Lands, Settled, SettledFrom, Short, entry_at, join_only};
+ghost use Rattle.func_flow.specs.Runs.{Arrives, IsInOrder, Lands, Raises, Settled, SettledFrom, Short, entry_at, join_only};
 ghost use Rattle.func_flow.specs.Steps.{decides_of, whom_of};
 
 use crate::items::Item;
@@ -517,13 +517,26 @@ impl Flow<'_> {
         }
     }
 
+    /// A location where it is needed furthest up; another item is left as it is.
+    fn raised(&self, item: Item) -> Item
+        requires { IsItem self.now.tables.numbering item }
+        ensures exact { (j : Item) → Raises self.now.runs.now item j ↔ (j ≡ result) }
+        ensures item { IsItem self.now.tables.numbering result }
+    {
+        match item {
+            Item::Needed(loc, point) => Item::Needed(loc, self.runs.top(loc, point)),
+            _ => item,
+        }
+    }
+
     fn push_earlier(&self, loc: Loc, point: Point, next: &mut Vec<usize>) -> Result<(), NoMemory>
         requires node { number point < self.now.tables.numbering.nodes }
         requires loc { IsLoc self.now.tables.numbering.globals self.now.tables.numbering.locals loc }
-        ensures { IfOk result (λ _. Gains (Numbered self.now.tables.numbering (Lands self.now.tables self.now.runs.now loc point))
+        ensures { IfOk result (λ _. Gains (Numbered self.now.tables.numbering (Arrives self.now.tables self.now.runs.now loc point))
             next.old.items next.new.items) }
     {
-        let item = self.passed(loc, point);
+        let passed = self.passed(loc, point);
+        let item = self.raised(passed);
         self.push(item, next)?;
         Ok(())
     }

@@ -1,11 +1,12 @@
-use Rattle.std.proofs.Common.{◌≡◌, ◌<◌, ◌≤◌, ◌∙◌, None, true, length, sym, ap, subst, arith}
+use Rattle.std.proofs.Common.{◌≡◌, ◌<◌, ◌≤◌, ◌∙◌, None, Some, true, length, slice_get, sym, ap, subst, arith}
 use Rattle.wasm_types.specs.declared.place.Node.{Node}
 use Rattle.wasm_types.specs.declared.place.Node.TheVariants.{Exit}
 use Rattle.wasm_types.specs.Code.{code_of, count}
 use Rattle.block_cfg.specs.Graph.{number}
 use Rattle.block_cfg.specs.Walk.{first_of}
 use Rattle.control_deps.proofs.SpotLemmas.{length_spots}
-use Rattle.func_flow.proofs.FlowLemmas.{first_within, first_low, found_led}
+use Rattle.def_use.proofs.CfgLemmas.{cfg_is_graph}
+use Rattle.func_flow.proofs.FlowLemmas.{first_within, first_low, first_begun, found_led}
 use Rattle.func_flow.proofs.Right.{fits, quiet}
 use Rattle.func_flow.proofs.RunLemmas.{order_of}
 use Rattle.func_flow.proofs.flow.rows_by.Goals as goal
@@ -31,6 +32,18 @@ search-requires-clause-runs c = c.in_ok-runs.ensures
 
 pub search-requires-clause-quiet : goal.search-requires-clause-quiet
 search-requires-clause-quiet c = quiet c.args.m.now c.args.func c.args.tables c.requires.made
+
+pub new-requires-clause-graph : goal.new-requires-clause-graph
+new-requires-clause-graph c = cfg_is_graph c.args.tables.body.now c.args.tables.cfg.now c.requires.made.cfg
+
+pub search-requires-clause-graph : goal.search-requires-clause-graph
+search-requires-clause-graph c = cfg_is_graph c.args.tables.body.now c.args.tables.cfg.now c.requires.made.cfg
+
+pub search-requires-clause-begun : goal.search-requires-clause-begun
+search-requires-clause-begun c =
+    let t = c.args.tables in
+    let is : c.first_point-first.result ≡ first_of 0 (code_of t.body.now.code) Exit = rw c.as_slice.ensures at c.first_point-first.ensures in
+    subst (λ (n : Node). slice_get t.cfg.now.points 0 ≡ Some n) (sym is) (first_begun t.body.now t.cfg.now c.requires.made.cfg)
 
 pub search-requires-clause-begins : goal.search-requires-clause-begins
 search-requires-clause-begins c =

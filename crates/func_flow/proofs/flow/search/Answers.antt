@@ -25,7 +25,8 @@ returns-clause-exact c = λ o x.
     let adds : Adds (Begins t.numbering (First t)) [] c.deref.result.now =
     subst (λ (roots : List Root). Adds (Begins t.numbering (First t)) [] roots) (sym c.deref.ensures.value) c.in_ok-roots.ensures in
     let flow = c.args.flow.now in
-    let found = met_found t flow.runs.now flow.fits c.requires.quiet c.requires.runs c.deref.result.now adds c.in_ok-met.met c.in_ok-met.ensures.exact c.args.first c.requires.first
-    c.requires.begins c.args.globals c.args.params c.requires.globals c.requires.params o x in
+    let found = met_found t flow.runs.now flow.fits c.requires.quiet c.requires.runs c.requires.graph c.deref.result.now adds c.in_ok-met.met
+    c.in_ok-met.ensures.exact c.args.first c.requires.first
+    c.requires.begins c.requires.begun c.args.globals c.args.params c.requires.globals c.requires.params o x in
     let rows = c.in_ok-rows.ensures.exact o x in
     (λ h. found.0 (rows.0 h), λ h. rows.1 (found.1 h))
